@@ -1,6 +1,6 @@
 //! `check seq` and `check seqplus`: the verdict on an HCL file, explained.
 ghost use Rattle.std.specs.Prelude.{◌≡◌, ◌↔◌, IfOk, true};
-ghost use Rattle.y86_tell.specs.Explained.{IsOrderedOver, SeqAnswers};
+ghost use Rattle.tell_cli.specs.Explained.{IsOrderedOver, SeqAnswers};
 ghost use Rattle.seq_refusals.specs.Answered.{is_yes};
 ghost use Rattle.seq_requirements.specs.Datapaths.{rows_of};
 

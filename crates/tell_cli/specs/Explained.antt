@@ -14,7 +14,7 @@ use Rattle.pipe_refusals.specs.declared.answer.PipeAnswer.{PipeAnswer}
 use Rattle.seq_requirements.specs.declared.datapath.Datapath.{Datapath}
 use Rattle.seq_refusals.specs.Answered as seq
 use Rattle.seq_refusals.specs.declared.answer.SeqAnswer as seq_answer
-use Rattle.y86_tell.specs.declared.designs.Ordered.{Ordered}
+use Rattle.tell_cli.specs.declared.designs.Ordered.{Ordered}
 
 -- the text is a file with this design over a table
 pub record HasDesignOver (rows : List Row) (text : List ℕ) (terms : List Term) : Type 0 where

@@ -1,6 +1,6 @@
 //! Why a call ends without an answer: the status of each stop, and what it says on standard error.
 ghost use Rattle.std.specs.Prelude.{◌≡◌};
-ghost use Rattle.y86_tell.specs.Stops as spec;
+ghost use Rattle.tell_cli.specs.Stops as spec;
 
 use std::alloc::AllocError;
 use wb_io::ReadErr;

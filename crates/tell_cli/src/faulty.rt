@@ -2,7 +2,7 @@
 ghost use Rattle.std.specs.Prelude.{◌≡◌, ◌↔◌, [], IfOk};
 ghost use Rattle.hcl_types.specs.Tables.{IsSound};
 ghost use Rattle.y86_base.specs.Image.{IsSize};
-ghost use Rattle.y86_tell.specs.Faults as spec;
+ghost use Rattle.tell_cli.specs.Faults as spec;
 
 use crate::checking::Said;
 use crate::stop::{Stop, unread};

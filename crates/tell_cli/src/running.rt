@@ -3,7 +3,7 @@ ghost use Rattle.std.specs.Prelude.{◌≡◌, ◌≢◌, ◌↔◌, ◌<◌, �
 ghost use Rattle.run_report.specs.Outcome.{is_same};
 ghost use Rattle.run_report.specs.declared.outcome.Outcome.{Outcome};
 ghost use Rattle.y86_base.specs.Image.{IsSize};
-ghost use Rattle.y86_tell.specs.Running.{IsRun};
+ghost use Rattle.tell_cli.specs.Running.{IsRun};
 
 use crate::checking::{HCL_LIMIT, Said, fault_stop, json_text};
 use crate::designs::{NoDesign, Ordered, pipe_design};

@@ -1,6 +1,6 @@
 //! `check pipe`: the verdict on an HCL file, explained.
 ghost use Rattle.std.specs.Prelude.{◌≡◌, ◌↔◌, IfOk, true};
-ghost use Rattle.y86_tell.specs.Explained.{Answers, IsOrdered};
+ghost use Rattle.tell_cli.specs.Explained.{Answers, IsOrdered};
 ghost use Rattle.pipe_refusals.specs.Answered.{is_yes};
 
 use crate::cases::case_places;

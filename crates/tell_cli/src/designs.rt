@@ -2,7 +2,7 @@
 ghost use Rattle.std.specs.Prelude.{◌≡◌, IfOk};
 ghost use Rattle.hcl_types.specs.Tables.{IsSound};
 ghost use Rattle.seq_requirements.specs.Datapaths.{rows_of};
-ghost use Rattle.y86_tell.specs.Explained.{HasDesign, HasDesignOver, IsOrdered, IsOrderedOver};
+ghost use Rattle.tell_cli.specs.Explained.{HasDesign, HasDesignOver, IsOrdered, IsOrderedOver};
 
 use dp_signals::{law_of_tables, pipe_table};
 use finding_text::{CasePlace, ExplainedFile};

@@ -1,0 +1,121 @@
+//! What a call asks for, its answer, and its status.
+ghost use Rattle.std.specs.Prelude.{◌≡◌};
+ghost use Rattle.tell_cli.specs.Stops.{status_of};
+
+use crate::arguments::Call;
+use crate::checking::{Said, check_pipe};
+use crate::faulty::tell_faults;
+use crate::programs::{is_size, report_program};
+use crate::running::{is_limit, tell_run};
+use crate::sequential::{Question, check_sequential};
+use crate::showing::show;
+use crate::stop::Stop;
+use explanations::Path;
+use seq_requirements::Datapath;
+use std::alloc::Global;
+use wb_io::{Files, Sink, put_all};
+
+/// What is said of a memory whose size is no multiple of 8.
+const ODD_SIZE: &str = "the bytes of memory have to be a multiple of 8\n";
+
+/// What is said of a limit that is out of range.
+const ODD_LIMIT: &str = "the limit has to be from 1 to 100000000\n";
+
+/// Writes what was said, and gives the status.
+fn say<O: Sink>(said: Said, out: &mut O) -> Result<u8, Stop> {
+    match put_all(out, said.text.as_slice()) {
+        Ok(()) => Ok(said.status),
+        Err(_) => Err(Stop::Write),
+    }
+}
+
+/// Does what a call asks for, and gives the status.
+fn answer<F: Files, O: Sink>(
+    alloc: Global,
+    call: Call<'_>,
+    files: &mut F,
+    out: &mut O,
+) -> Result<u8, Stop> {
+    match call {
+        Call::Check {
+            path,
+            hcl,
+            variant,
+            json,
+        } => match path {
+            Path::Pipe => say(check_pipe(alloc, hcl, variant, json, files)?, out),
+            Path::Seq => {
+                let asked = Question {
+                    which: Datapath::Seq,
+                    variant,
+                    json,
+                };
+                say(check_sequential(alloc, hcl, asked, files)?, out)
+            }
+            Path::SeqPlus => {
+                let asked = Question {
+                    which: Datapath::Plus,
+                    variant,
+                    json,
+                };
+                say(check_sequential(alloc, hcl, asked, files)?, out)
+            }
+        },
+        Call::Program { obj, asked } => {
+            if is_size(asked.size) {
+                report_program(alloc, obj, asked, files, out)
+            } else {
+                Err(Stop::Usage(ODD_SIZE))
+            }
+        }
+        Call::Run { hcl, obj, asked } => {
+            if !is_size(asked.size) {
+                return Err(Stop::Usage(ODD_SIZE));
+            }
+            if !is_limit(asked.limit) {
+                return Err(Stop::Usage(ODD_LIMIT));
+            }
+            say(tell_run(alloc, hcl, obj, &asked, files)?, out)
+        }
+        Call::Fault { file, asked } => {
+            if is_size(asked.size) {
+                say(tell_faults(alloc, file, asked, files)?, out)
+            } else {
+                Err(Stop::Usage(ODD_SIZE))
+            }
+        }
+        Call::Show { word, json } => say(show(alloc, word, json)?, out),
+    }
+}
+
+/// Writes a stop on standard error, and gives its status.
+fn tell_stop<E: Sink>(stop: &Stop, err: &mut E) -> u8
+    ensures { result ≡ status_of stop.now }
+{
+    let text = match stop {
+        Stop::Usage(text) => text.as_bytes(),
+        Stop::Read => b"the file can't be read\n".as_slice(),
+        Stop::Write => b"".as_slice(),
+        Stop::Fault(text) => text.as_slice(),
+        Stop::TooLong => {
+            b"the file is too long: over 65,536 bytes for HCL, over 1,048,576 for others\n".as_slice()
+        }
+        Stop::Memory => b"out of memory\n".as_slice(),
+    };
+    let _ = put_all(err, text);
+    stop.status()
+}
+
+/// Does what a call asks for, and gives the status that the program ends with.
+pub fn respond<F: Files, O: Sink, E: Sink>(
+    alloc: Global,
+    call: Call<'_>,
+    files: &mut F,
+    out: &mut O,
+    err: &mut E,
+) -> u8 {
+    match answer(alloc, call, files, out) {
+        Ok(status) => status,
+        Err(stop) => tell_stop(&stop, err),
+    }
+}
