@@ -1,12 +1,20 @@
--- The numbers that few bits spell are those of words.
-use Rattle.std.proofs.Common.{◌≡◌, ℕ, ◌+◌, ◌*◌, ◌%◌, ◌^◌, ◌≤◌, ◌<◌, Bool, false, List, get_or, refl, arith}
+-- The numbers that few bits spell are those of words; and a line whose beginning is put in two parts.
+use Rattle.std.proofs.Common.{◌≡◌, ℕ, ◌+◌, ◌*◌, ◌%◌, ◌^◌, ◌≤◌, ◌<◌, Bool, false, List, ◌++◌, append_assoc, codes, get_or, refl, sym, ap, ◌∙◌, arith}
 use Rattle.std.proofs.Math.Nat.{pow-le-pow_right}
 use Rattle.net_fields.proofs.Loops.{number_more}
 use Rattle.net_fields.proofs.Patterns.{spelt_lt}
 use Rattle.net_fields.specs.Spelling.{spelt, bit}
+use Rattle.verdict_text.specs.Fields.{Labelled, labelled, labelled_line}
 
 pub one_more : (w : List Bool) (first k n x : ℕ) → n ≡ spelt w first k % 2 ^ 64 → x ≡ bit (get_or w (first + k) false) → (n * 2 % 2 ^ 64 + x) % 2 ^ 64 ≡ spelt w first (k + 1) % 2 ^ 64
 one_more w first k n x e f = let more = number_more w first k (spelt w first k) x refl f in omega (arith, e, more)
 
 pub spelt_few : (w : List Bool) (first bits : ℕ) → bits ≤ 4 → spelt w first bits % 2 ^ 64 ≡ spelt w first bits
 spelt_few w first bits few = let most : 2 ^ bits ≤ 2 ^ 4 = pow-le-pow_right {n = 2} (omega arith) {i = bits} {j = 4} few in omega (arith, spelt_lt w first bits, most)
+
+pub stage_text : (old letter word : List ℕ) (numbers : List Labelled) → (old ++ letter) ++ labelled_line word numbers ≡ old ++ labelled_line (letter ++ word) numbers
+unfolding labelled_line
+stage_text old letter word numbers =
+    append_assoc old letter (word ++ labelled numbers ++ codes "\n")
+    ∙ ap (λ (xs : List ℕ). old ++ xs)
+    (sym (append_assoc letter (word ++ labelled numbers) (codes "\n")) ∙ ap (λ (xs : List ℕ). xs ++ codes "\n") (sym (append_assoc letter word (labelled numbers))))

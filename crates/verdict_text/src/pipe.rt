@@ -58,7 +58,6 @@ pub fn line_fields(line: StageLine) -> &'static [ShownField]
 }
 
 /// Puts the line of a stage that holds something of this kind.
-#[tactic(auto, unfolding(crate::specs::Fields::labelled_line))]
 fn put_stage(
     out: &mut Vec<u8>,
     letter: &[u8],

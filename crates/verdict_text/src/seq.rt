@@ -9,22 +9,36 @@ use crate::atoms::put_atoms;
 use crate::numbers::{ShownField, put_line};
 use ctl_atoms::Atom;
 use hcl_types::Row;
+use net_fields::BitRange;
 use nets::Valuation;
 use seq_obligations::{BIT_COUNT, LINE, P_CND, P_ICODE, PLUS_BIT_COUNT, PLUS_LINE};
 use std::alloc::Global;
 use y86_base::{Memory, Numeral, put};
 
+/// The field of a label and a place.
+macro_rules! shown_field {
+    ($label:literal, $place:expr) => {
+        ShownField {
+            label: $label,
+            place: BitRange {
+                first: $place.first,
+                bits: $place.bits,
+            },
+        }
+    };
+}
+
 /// The fields of a line S that stand at these places.
 macro_rules! line_fields {
     ($line:expr) => {
         [
-            ShownField { label: "error", place: $line.error },
-            ShownField { label: "icode", place: $line.icode },
-            ShownField { label: "ifun", place: $line.ifun },
-            ShownField { label: "rA", place: $line.r_a },
-            ShownField { label: "rB", place: $line.r_b },
-            ShownField { label: "cnd", place: $line.cnd },
-            ShownField { label: "derror", place: $line.derror },
+            shown_field!("error", $line.error),
+            shown_field!("icode", $line.icode),
+            shown_field!("ifun", $line.ifun),
+            shown_field!("rA", $line.r_a),
+            shown_field!("rB", $line.r_b),
+            shown_field!("cnd", $line.cnd),
+            shown_field!("derror", $line.derror),
         ]
     };
 }
@@ -34,14 +48,8 @@ static FIELDS: [ShownField; 7] = line_fields!(LINE);
 static PLUS_FIELDS: [ShownField; 7] = line_fields!(PLUS_LINE);
 
 static PREVIOUS_FIELDS: [ShownField; 2] = [
-    ShownField {
-        label: "icode",
-        place: P_ICODE,
-    },
-    ShownField {
-        label: "cnd",
-        place: P_CND,
-    },
+    shown_field!("icode", P_ICODE),
+    shown_field!("cnd", P_CND),
 ];
 
 /// The fields of the line S of SEQ as they are shown.
