@@ -158,7 +158,8 @@ impl<'a> Definitions<'a> {
         ensures filled { (row : Row) → slice_get self.now.rows.now id ≡ Some row → tables.is_defined row.role ≡ true → OnOk result (IsTrue (is_filled (slice_get es.new.items id))) }
         ensures kept { (n : ℕ) → IsTrue (is_filled (slice_get es.old.items n)) → OnOk result (IsTrue (is_filled (slice_get es.new.items n))) }
     {
-        let row = &self.rows[id as usize];
+        let rows = self.rows;
+        let row = &rows[id as usize];
         if !is_defined(&row.role) {
             return Ok(());
         }
@@ -259,11 +260,12 @@ pub fn translate(
     match atoms(alloc, d, t, o) {
         Err(e) => Err(e),
         Ok(listed) => {
+            let atoms = listed.as_slice();
             let definitions = Definitions {
                 rows: t.rows.items(),
                 terms: d.terms.items(),
-                atoms: listed.as_slice(),
-                first: b.vars() - listed.len() as u32,
+                atoms,
+                first: b.vars() - atoms.len() as u32,
             };
             match definitions.controls(alloc, o, places, b) {
                 Ok(ctl) => Ok(ctl),
