@@ -11,7 +11,7 @@ use Rattle.std.proofs.Math.Seq.{get_or-append_seam}
 use Rattle.y86_base.specs.declared.parts.Variant.{Variant}
 use Rattle.net_fields.specs.FieldSpecs as table
 use Rattle.net_fields.specs.declared.field_specs.FieldSpec.{FieldSpec}
-use Rattle.pipe_fields.specs.Layout.{Fields, InRange, fields_by, fields_of, numbers, field_specs, field_count}
+use Rattle.pipe_fields.specs.Layout.{Fields, InRange, fields_by, fields_of, numbers, field_specs, field_count, e_first}
 use Rattle.pipe_fields.specs.Allowed.{allowed}
 use Rattle.pipe_fields.proofs.Told.{has_pattern}
 use Rattle.prog_gen.specs.Choices.{AreChosen, choices, chosen, choice_allowed, numbers_drawn, truths_drawn, valuation, valuation_from, width, word_behind}
@@ -167,7 +167,7 @@ whole_lawful v xs f size =
     record {
       numbers_are = e;
       range = subst (table.InRange field_specs) (sym e) (ranges field_specs xs (record { bits = 0; name = None }) (sym size) (λ j h. f.small j (omega (arith, h, size))));
-      lawful = chosen_allowed v (fields_by xs) (f.small 25 (omega (arith, size))) (subst (AreChosen v) (sym e) f.chosen);
+      lawful = chosen_allowed v (fields_by xs) (f.small (e_first + 7) (omega (arith, size))) (subst (AreChosen v) (sym e) f.chosen);
     }
 
 pub front_begun : (v : Variant) (xs : List ℕ) → IsFront v xs → IsAllowedPrefix v xs

@@ -1,5 +1,5 @@
 -- Numbers that may stand behind one another are those of an allowed valuation.
-use Rattle.std.proofs.Common.{◌≡◌, ℕ, ◌<◌, Bool, true, false, not, ◌&&◌, ◌||◌, ◌==◌, nat_lt, nat_le, if◌then◌else◌, length, get_or, take, refl, subst, arith}
+use Rattle.std.proofs.Common.{◌≡◌, ◌+◌, ℕ, ◌<◌, Bool, true, false, not, ◌&&◌, ◌||◌, ◌==◌, nat_lt, nat_le, if◌then◌else◌, length, get_or, take, refl, subst, arith}
 use Rattle.std.proofs.lemmas.Bool.{eqb-true, and_from}
 use Rattle.std.proofs.lemmas.Bool.Decides.{nat_tests}
 use Rattle.y86_base.specs.declared.parts.Variant.{Variant}
@@ -10,7 +10,7 @@ use Rattle.y86_isa.specs.Table.{rows, row, inop, no_register}
 use Rattle.net_fields.specs.AllowedNumbers.{register_field_allowed, register_allowed, cnd_allowed_where, zero_unless, cnd_allowed, codes_allowed, icode_allowed, shares_register, destination_allowed}
 use Rattle.y86_base.specs.Words.{set}
 use Rattle.y86_base.proofs.Booleans.{and_second, and_first}
-use Rattle.pipe_fields.specs.Layout.{Fields, FetchLine, DecodeLine, ExecuteLine, MemoryLine, WriteLine, fields_by, numbers, bubble, field_count}
+use Rattle.pipe_fields.specs.Layout.{Fields, FetchLine, DecodeLine, ExecuteLine, MemoryLine, WriteLine, fields_by, numbers, bubble, field_count, f_first, d_first, e_first, m_first, w_first}
 use Rattle.pipe_fields.specs.Allowed.{allowed, fetch_row_allowed, decode_row_allowed, execute_row_allowed, memory_row_allowed, write_row_allowed, registers_allowed, fetch_allowed, decode_allowed, execute_allowed, memory_allowed, write_allowed, is_good_aok}
 use Rattle.prog_gen.specs.Choices.{choice_allowed, AreChosen, stat_choice_allowed, icode_choice_allowed, ifun_choice_allowed}
 
@@ -28,11 +28,11 @@ fetch_chosen v c h =
     let r : Row = row v c.f.icode in
     let count : ℕ = length (rows v) in
     let x : FetchLine = c.f in
-    let f1 : (if set x.error then x.icode == inop else icode_allowed count x.icode) ≡ true = h 5 (omega arith) in
-    let f2 : (nat_le x.ifun r.ifun_top && (not (set x.error) || x.ifun == 0)) ≡ true = h 6 (omega arith) in
-    let f3 : cnd_allowed_where (next_is_branch r.next) x.ifun x.taken ≡ true = h 7 (omega arith) in
-    let f4 : zero_unless (accesses r.memory) x.stops ≡ true = h 8 (omega arith) in
-    let f5 : zero_unless (next_is_branch r.next) x.back ≡ true = h 9 (omega arith) in
+    let f1 : (if set x.error then x.icode == inop else icode_allowed count x.icode) ≡ true = h (f_first + 1) (omega arith) in
+    let f2 : (nat_le x.ifun r.ifun_top && (not (set x.error) || x.ifun == 0)) ≡ true = h (f_first + 2) (omega arith) in
+    let f3 : cnd_allowed_where (next_is_branch r.next) x.ifun x.taken ≡ true = h (f_first + 3) (omega arith) in
+    let f4 : zero_unless (accesses r.memory) x.stops ≡ true = h (f_first + 4) (omega arith) in
+    let f5 : zero_unless (next_is_branch r.next) x.back ≡ true = h (f_first + 5) (omega arith) in
     and_from _ _ (and_from _ _ (and_from _ _ (reading (set x.error) (x.icode == inop) (icode_allowed count x.icode) (x.ifun == 0) (nat_le x.ifun r.ifun_top) f1 f2) f3) f4) f5
 
 -- ---- a choice by a test that is known
@@ -88,28 +88,28 @@ decode_chosen v c h = by (x.kind == bubble) refl
     f0 = h 0 (omega arith)
 
     f1 : stat_choice_allowed x.kind x.stat ≡ true
-    f1 = h 10 (omega arith)
+    f1 = h d_first (omega arith)
 
     f2 : icode_choice_allowed count x.kind false x.stat x.icode ≡ true
-    f2 = h 11 (omega arith)
+    f2 = h (d_first + 1) (omega arith)
 
     f3 : ifun_choice_allowed r x.kind x.stat x.ifun ≡ true
-    f3 = h 12 (omega arith)
+    f3 = h (d_first + 2) (omega arith)
 
     f4 : register_field_allowed r.has_byte r.uses_a x.r_a ≡ true
-    f4 = h 13 (omega arith)
+    f4 = h (d_first + 3) (omega arith)
 
     f5 : register_field_allowed r.has_byte r.uses_b x.r_b ≡ true
-    f5 = h 14 (omega arith)
+    f5 = h (d_first + 4) (omega arith)
 
     f6 : cnd_allowed_where (is_good_aok x.kind x.stat && next_is_branch r.next) x.ifun x.taken ≡ true
-    f6 = h 15 (omega arith)
+    f6 = h (d_first + 5) (omega arith)
 
     f7 : zero_unless (is_good_aok x.kind x.stat && accesses r.memory) x.stops ≡ true
-    f7 = h 16 (omega arith)
+    f7 = h (d_first + 6) (omega arith)
 
     f8 : zero_unless (is_good_aok x.kind x.stat && next_is_branch r.next) x.back ≡ true
-    f8 = h 17 (omega arith)
+    f8 = h (d_first + 7) (omega arith)
 
     by : (b : Bool) → (x.kind == bubble) ≡ b → decode_allowed v x ≡ true
     by true e =
@@ -170,34 +170,34 @@ execute_chosen v c small h = by (x.kind == bubble) refl
     f0 = h 1 (omega arith)
 
     f1 : stat_choice_allowed x.kind x.stat ≡ true
-    f1 = h 18 (omega arith)
+    f1 = h e_first (omega arith)
 
     f2 : icode_choice_allowed count x.kind false x.stat x.icode ≡ true
-    f2 = h 19 (omega arith)
+    f2 = h (e_first + 1) (omega arith)
 
     f3 : ifun_choice_allowed r x.kind x.stat x.ifun ≡ true
-    f3 = h 20 (omega arith)
+    f3 = h (e_first + 2) (omega arith)
 
     f4 : register_allowed r.dst_e x.dst_e ≡ true
-    f4 = h 21 (omega arith)
+    f4 = h (e_first + 3) (omega arith)
 
     f5 : register_allowed r.dst_m x.dst_m ≡ true
-    f5 = h 22 (omega arith)
+    f5 = h (e_first + 4) (omega arith)
 
     f6 : register_allowed r.src_a x.src_a ≡ true
-    f6 = h 23 (omega arith)
+    f6 = h (e_first + 5) (omega arith)
 
     f7 : (register_allowed r.src_b x.src_b && shares_register r x.src_b x.dst_e) ≡ true
-    f7 = h 24 (omega arith)
+    f7 = h (e_first + 6) (omega arith)
 
     f8 : cnd_allowed x.ifun x.cnd ≡ true
-    f8 = h 25 (omega arith)
+    f8 = h (e_first + 7) (omega arith)
 
     f9 : zero_unless (is_good_aok x.kind x.stat && accesses r.memory) x.stops ≡ true
-    f9 = h 26 (omega arith)
+    f9 = h (e_first + 8) (omega arith)
 
     f10 : zero_unless (is_good_aok x.kind x.stat && next_is_branch r.next) x.back ≡ true
-    f10 = h 27 (omega arith)
+    f10 = h (e_first + 9) (omega arith)
 
     by : (b : Bool) → (x.kind == bubble) ≡ b → execute_allowed v x ≡ true
     by true e =
@@ -247,28 +247,28 @@ memory_chosen v c h = by (x.kind == bubble) refl
     f0 = h 2 (omega arith)
 
     f1 : stat_choice_allowed x.kind x.stat ≡ true
-    f1 = h 28 (omega arith)
+    f1 = h m_first (omega arith)
 
     f2 : icode_choice_allowed count x.kind false x.stat x.icode ≡ true
-    f2 = h 29 (omega arith)
+    f2 = h (m_first + 1) (omega arith)
 
     f3 : ifun_choice_allowed r x.kind x.stat x.ifun ≡ true
-    f3 = h 30 (omega arith)
+    f3 = h (m_first + 2) (omega arith)
 
     f4 : (register_allowed r.dst_e x.dst_e || (r.conditional && (x.dst_e == no_register && not (x.ifun == 0)))) ≡ true
-    f4 = h 31 (omega arith)
+    f4 = h (m_first + 3) (omega arith)
 
     f5 : register_allowed r.dst_m x.dst_m ≡ true
-    f5 = h 32 (omega arith)
+    f5 = h (m_first + 4) (omega arith)
 
     f6 : (if x.kind == bubble then true else cnd_allowed x.ifun x.cnd && destination_allowed r x.cnd x.dst_e) ≡ true
-    f6 = h 33 (omega arith)
+    f6 = h (m_first + 5) (omega arith)
 
     f7 : zero_unless (is_good_aok x.kind x.stat && accesses r.memory) x.error ≡ true
-    f7 = h 34 (omega arith)
+    f7 = h (m_first + 6) (omega arith)
 
     f8 : zero_unless (is_good_aok x.kind x.stat && next_is_branch r.next) x.back ≡ true
-    f8 = h 35 (omega arith)
+    f8 = h (m_first + 7) (omega arith)
 
     by : (b : Bool) → (x.kind == bubble) ≡ b → memory_allowed v x ≡ true
     by true e =
@@ -313,16 +313,16 @@ write_chosen v c h = by (x.kind == bubble) refl
     f0 = h 3 (omega arith)
 
     f1 : stat_choice_allowed x.kind x.stat ≡ true
-    f1 = h 36 (omega arith)
+    f1 = h w_first (omega arith)
 
     f2 : icode_choice_allowed count x.kind (accesses r.memory) x.stat x.icode ≡ true
-    f2 = h 37 (omega arith)
+    f2 = h (w_first + 1) (omega arith)
 
     f3 : ((r.conditional && x.dst_e == no_register) || register_allowed r.dst_e x.dst_e) ≡ true
-    f3 = h 38 (omega arith)
+    f3 = h (w_first + 2) (omega arith)
 
     f4 : register_allowed r.dst_m x.dst_m ≡ true
-    f4 = h 39 (omega arith)
+    f4 = h (w_first + 3) (omega arith)
 
     by : (b : Bool) → (x.kind == bubble) ≡ b → write_allowed v x ≡ true
     by true e =
