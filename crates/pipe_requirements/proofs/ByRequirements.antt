@@ -78,7 +78,7 @@ module _ (v : Variant) (s : Settings) (c : Fields) (y : Flow) (mv : RegisterCont
   at21 : rule.o21 v s c y mv α cv ≡ each (is_met α cv) (required21 v s c y mv cv)
   at21 = guarded (is_met α cv) y.w.good _ _ (four (is_number cv signal.w_dstE c.w.dst_e) (is_number cv signal.w_dstM c.w.dst_m) (picks_leaf cv signal.w_valE (Name signal.W_valE)) (picks_leaf cv signal.w_valM (Name signal.W_valM)))
 
-  IsSaid : ℕ → Type 0
+  abbrev IsSaid : ℕ → Type 0
   IsSaid n = get_or (true ∷ demands v s c y mv α cv) n true ≡ each (is_met α cv) (get_or ([] ∷ required v s c y mv cv) n [])
 
   -- no obligation has number 0

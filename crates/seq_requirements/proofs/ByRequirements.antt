@@ -29,42 +29,42 @@ use Rattle.seq_requirements.specs.declared.datapath.Datapath.{Datapath}
 use Rattle.seq_requirements.specs.declared.datapath.Datapath.TheVariants.{Seq, Plus}
 
 module _ (α : Assignment) (cv : ℕ → Leaf) where
+  abbrev answers : SignalRows → Row → seq.Fields → List Bool
+  answers s r c = true ∷ shared_demands s r c α cv
+
+  abbrev needs : SignalRows → Row → seq.Fields → List (List Requirement)
+  needs s r c = [] ∷ shared_required s r c
+
+  abbrev IsSaid : SignalRows → Row → seq.Fields → ℕ → Type 0
+  IsSaid s r c n = get_or (answers s r c) n true ≡ each (is_met α cv) (get_or (needs s r c) n [])
+
+  -- no rule has number 0
+  each_said : (s : SignalRows) (r : Row) (c : seq.Fields) → EachFrom (IsSaid s r c) 0 16
+  each_said s r c =
+      refl ▹
+      two (is_number cv s.icode c.icode) (is_number cv s.ifun c.ifun) ▹
+      one _ ▹
+      one _ ▹
+      one _ ▹
+      one _ ▹
+      one _ ▹
+      one _ ▹
+      some_is α cv s.alu_a (operand_leaf_a r.alu_a s.val_a s.val_c) ▹
+      some_is α cv s.alu_b (operand_leaf_b r.alu_b s.val_b) ▹
+      guarded (is_met α cv) (has_operand_a r.alu_a) _ _ (one _) ▹
+      one _ ▹
+      some_is α cv s.mem_addr (address_leaf r.memory s.val_a s.val_e) ▹
+      two (is_truth α cv s.mem_read (is_load r.memory)) (is_truth α cv s.mem_write (is_store r.memory)) ▹
+      some_is α cv s.mem_data (word_leaf r.memory s.val_a s.val_p) ▹
+      one _ ▹
+      no_more
+
   shared_is : (s : SignalRows) (i : ℕ) (r : Row) (c : seq.Fields) → shared_demand s i r c α cv ≡ each (is_met α cv) (shared_requirements s i r c)
   unfolding shared_requirements
   shared_is s i r c = elim (cases_lt i 16) [
-    | inl lt ↦ each_below IsSaid 16 each_said i lt
-    | inr ge ↦ get_or_past answers i true ge ∙ ap (λ xs. each (is_met α cv) xs) (sym (get_or_past needs i [] ge))
+    | inl lt ↦ each_below (IsSaid s r c) 16 (each_said s r c) i lt
+    | inr ge ↦ get_or_past (answers s r c) i true ge ∙ ap (λ xs. each (is_met α cv) xs) (sym (get_or_past (needs s r c) i [] ge))
   ]
-    where
-      answers : List Bool
-      answers = true ∷ shared_demands s r c α cv
-
-      needs : List (List Requirement)
-      needs = [] ∷ shared_required s r c
-
-      IsSaid : ℕ → Type 0
-      IsSaid n = get_or answers n true ≡ each (is_met α cv) (get_or needs n [])
-
-      -- no rule has number 0
-      each_said : EachFrom IsSaid 0 16
-      each_said =
-          refl ▹
-          two (is_number cv s.icode c.icode) (is_number cv s.ifun c.ifun) ▹
-          one _ ▹
-          one _ ▹
-          one _ ▹
-          one _ ▹
-          one _ ▹
-          one _ ▹
-          some_is α cv s.alu_a (operand_leaf_a r.alu_a s.val_a s.val_c) ▹
-          some_is α cv s.alu_b (operand_leaf_b r.alu_b s.val_b) ▹
-          guarded (is_met α cv) (has_operand_a r.alu_a) _ _ (one _) ▹
-          one _ ▹
-          some_is α cv s.mem_addr (address_leaf r.memory s.val_a s.val_e) ▹
-          two (is_truth α cv s.mem_read (is_load r.memory)) (is_truth α cv s.mem_write (is_store r.memory)) ▹
-          some_is α cv s.mem_data (word_leaf r.memory s.val_a s.val_p) ▹
-          one _ ▹
-          no_more
 
   pub by_requirements : (which : Datapath) (v : Variant) (xs : List ℕ) (i : ℕ) → IsByRequirements which v xs α cv i
   unfolding seq_demand_at plus_demand_at
