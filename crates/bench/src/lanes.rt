@@ -3,9 +3,9 @@ ghost use Rattle.std.specs.Prelude.{◌≡◌, IfOk, length};
 
 use control_check::file_rules;
 use dp_signals::{law_of_tables, pipe_table};
+use hcl_binding::bind;
 use hcl_order::order;
 use hcl_read::read;
-use hcl_types::bind;
 use lane_eval::{Scratch, first_false_place};
 use nets::{Net, Valuation, eval};
 use std::alloc::{AllocError, Global};

@@ -2,9 +2,10 @@
 ghost use Rattle.std.specs.Prelude.{◌≡◌, ◌<◌, ◌^◌};
 
 use dp_signals::{law_of_tables, pipe_table, seq_table};
+use hcl_binding::bind;
 use hcl_order::order;
 use hcl_read::read;
-use hcl_types::{Plain, bind};
+use hcl_types::Plain;
 use pipe_path::Pipe;
 use retire_trace::drive;
 use seq_path::{Seq, run};

@@ -3,11 +3,11 @@ use Rattle.std.proofs.Common.{◌≡◌, ◌≢◌, ◌∙◌, ◌<◌, ◌+◌,
 use Rattle.std.proofs.lemmas.List.{take_more}
 use Rattle.hcl_read.specs.Read.{ReadsAs}
 use Rattle.hcl_tree.specs.declared.tree.File.{File}
-use Rattle.hcl_types.specs.Binding.{bound}
+use Rattle.hcl_binding.specs.Binding.{bound}
 use Rattle.hcl_types.specs.Equations.{needs_of}
 use Rattle.hcl_types.specs.Tables.{needs, row_names}
-use Rattle.hcl_types.specs.declared.fault.BindFault.{BindFault}
-use Rattle.hcl_types.specs.declared.fault.BindWhy.TheVariants.{Memory as OutOfMemory}
+use Rattle.hcl_binding.specs.declared.fault.BindFault.{BindFault}
+use Rattle.hcl_binding.specs.declared.fault.BindWhy.TheVariants.{Memory as OutOfMemory}
 use Rattle.hcl_types.specs.declared.table.Row.{Row}
 use Rattle.hcl_types.specs.declared.term.Term.{Term}
 use Rattle.hcl_order.specs.Dependence.{Depends, FirstCycle}

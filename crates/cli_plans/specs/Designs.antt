@@ -3,10 +3,10 @@ use Rattle.std.specs.Prelude.{◌≡◌, ◌⊎◌, ℕ, List, Ok, Err}
 use Rattle.hcl_read.specs.Read.{IsFault, ReadsAs}
 use Rattle.hcl_read.specs.declared.fault.HclFault.{HclFault}
 use Rattle.hcl_tree.specs.declared.tree.File.{File}
-use Rattle.hcl_types.specs.Binding.{bound}
+use Rattle.hcl_binding.specs.Binding.{bound}
 use Rattle.hcl_types.specs.Equations.{needs_of}
 use Rattle.hcl_types.specs.Tables.{IsBound, IsOrderOf, IsSound, needs, row_names}
-use Rattle.hcl_types.specs.declared.fault.BindFault.{BindFault}
+use Rattle.hcl_binding.specs.declared.fault.BindFault.{BindFault}
 use Rattle.hcl_types.specs.declared.table.Row.{Row}
 use Rattle.hcl_types.specs.declared.term.Term.{Term}
 use Rattle.hcl_order.specs.Dependence.{Depends, FirstCycle}

@@ -4,9 +4,9 @@ use Rattle.std.specs.List.{concat}
 use Rattle.hcl_read.specs.declared.fault.HclFault.{HclFault}
 use Rattle.hcl_read.specs.declared.fault.HclWhy.{HclWhy}
 use Rattle.hcl_read.specs.declared.fault.HclWhy.TheVariants as whys
-use Rattle.hcl_types.specs.declared.fault.BindFault.{BindFault}
-use Rattle.hcl_types.specs.declared.fault.BindWhy.{BindWhy}
-use Rattle.hcl_types.specs.declared.fault.BindWhy.TheVariants as binding
+use Rattle.hcl_binding.specs.declared.fault.BindFault.{BindFault}
+use Rattle.hcl_binding.specs.declared.fault.BindWhy.{BindWhy}
+use Rattle.hcl_binding.specs.declared.fault.BindWhy.TheVariants as binding
 use Rattle.y86_base.specs.Numeral.{numeral}
 use Rattle.yas_asm.specs.declared.fault.AsmFault.{AsmFault}
 use Rattle.yas_asm.specs.declared.fault.AsmWhy.{AsmWhy}

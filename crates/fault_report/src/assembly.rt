@@ -5,9 +5,9 @@ ghost use Rattle.fault_report.specs.Told.{IsTold, Reports};
 
 use crate::asm_rules::{AsmRule, asm_rules};
 use crate::asm_tests::{AsmTest, Form};
+use crate::binding_faults::sort_faults;
 use crate::facts::{Fault, Related, Report, other_place, part, put};
 use crate::fill::{Words, filled, no_words};
-use crate::hcl_binding::sort_faults;
 use crate::hcl_reading::{begins_with, is_text_of};
 use asm_faults::{LineFault, Part, faulty_lines, line_stop};
 use hcl_tree::Text;

@@ -1,5 +1,5 @@
 //! Which part of a definition's body is a word where a Boolean is wanted, or a Boolean where a word is.
-use crate::hcl_binding::row_of;
+use crate::binding_faults::row_of;
 use hcl_tree::{Branch, Expr, Kind};
 use hcl_types::{Class, Row};
 

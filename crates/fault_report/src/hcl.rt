@@ -1,8 +1,8 @@
 //! The faults of an HCL text.
 ghost use Rattle.hcl_types.specs.Tables.{IsSound};
 
+use crate::binding_faults::{Source, count_unknown, datapath_fault, table_faults};
 use crate::facts::{Datapath, Fault, Report, Tables, put};
-use crate::hcl_binding::{Source, count_unknown, datapath_fault, table_faults};
 use crate::hcl_reading::reading_fault;
 use hcl_faults::{TokenAt, stop_in, token_list};
 use hcl_read::read;

@@ -1,16 +1,16 @@
 //! The faults of HCL, assembly and object text in sentences: text in, sentences and facts out. The sentences are data,
-//! in the tables of `hcl_rules` and `asm_rules`. `hcl_binding` and `object` have those on faults with one sentence for
+//! in the tables of `hcl_rules` and `asm_rules`. `binding_faults` and `object` have those on faults with one sentence for
 //! each reason.
 #![tactic(auto)]
 
 mod asm_rules;
 mod asm_tests;
 mod assembly;
+mod binding_faults;
 mod blame;
 mod facts;
 mod fill;
 mod hcl;
-mod hcl_binding;
 mod hcl_reading;
 mod hcl_rules;
 mod object;

@@ -1,9 +1,9 @@
 //! The faults of object text, as sentences.
 ghost use Rattle.y86_base.specs.Image.{IsSize};
 
+use crate::binding_faults::{NOTHING_SAID, Saying};
 use crate::facts::{Fault, Report, part, put};
 use crate::fill::{filled, no_words};
-use crate::hcl_binding::{NOTHING_SAID, Saying};
 use hcl_tree::Text;
 use std::alloc::Global;
 use y86_base::{Items, Memory, Variant, first_line};

@@ -1,7 +1,7 @@
 //! All sentences on one kind of fault, with `~` around what is filled in.
 use crate::asm_rules::{AsmRule, asm_rules};
+use crate::binding_faults::{Saying, binding_sayings};
 use crate::facts::put;
-use crate::hcl_binding::{Saying, binding_sayings};
 use crate::hcl_rules::{HclRule, hcl_rules};
 use crate::object::object_sayings;
 use std::alloc::Global;

@@ -7,18 +7,18 @@ use Rattle.hcl_tree.specs.declared.tree.Item.TheVariants as item
 use Rattle.hcl_tree.specs.declared.tree.Expr.{Expr}
 use Rattle.hcl_types.specs.declared.term.Term.{Term}
 use Rattle.hcl_types.specs.declared.table.Row.{Row}
-use Rattle.hcl_types.specs.declared.fault.BindFault.{BindFault}
-use Rattle.hcl_types.specs.declared.fault.BindWhy.{BindWhy}
-use Rattle.hcl_types.specs.declared.fault.BindWhy.TheVariants as why
+use Rattle.hcl_binding.specs.declared.fault.BindFault.{BindFault}
+use Rattle.hcl_binding.specs.declared.fault.BindWhy.{BindWhy}
+use Rattle.hcl_binding.specs.declared.fault.BindWhy.TheVariants as why
 use Rattle.hcl_types.specs.Lists.{IsApart}
 use Rattle.hcl_types.specs.Kinds.{has_class}
 use Rattle.hcl_types.specs.Tables.{IsSound, defined, is_defined, row_names}
-use Rattle.hcl_types.specs.Binding.{fault, and_then, all_ok, row_named, declared, defined_as, is_of, of_kind, fault_in, item_fault, first_fault, definition, or_else, row_term, bound_by, bound, term_of}
-use Rattle.hcl_types.specs.Faults.{uses}
-use Rattle.hcl_types.proofs.Bound.{accepted}
-use Rattle.hcl_types.proofs.Designs.{filtered_at, faultless, row_at, no_fault}
-use Rattle.hcl_types.proofs.UsesOf.{WhereErr, Lacks, term_lacks}
-use Rattle.hcl_types.proofs.Faulted.{err_at}
+use Rattle.hcl_binding.specs.Binding.{fault, and_then, all_ok, row_named, declared, defined_as, is_of, of_kind, fault_in, item_fault, first_fault, definition, or_else, row_term, bound_by, bound, term_of}
+use Rattle.hcl_binding.specs.Faults.{uses}
+use Rattle.hcl_binding.proofs.Bound.{accepted}
+use Rattle.hcl_binding.proofs.Designs.{filtered_at, faultless, row_at, no_fault}
+use Rattle.hcl_binding.proofs.UsesOf.{WhereErr, Lacks, term_lacks}
+use Rattle.hcl_binding.proofs.Faulted.{err_at}
 use Rattle.hcl_faults.specs.declared.binding.ItemFault.{ItemFault}
 use Rattle.hcl_faults.specs.BindFaults.{with_fault, item_faults, is_missing, missing_names, first_of, must_define, is_twice, defined_name, own_fault, TellsMissing}
 

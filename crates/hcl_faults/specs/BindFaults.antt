@@ -3,11 +3,11 @@ use Rattle.std.specs.Prelude.{◌≡◌, ℕ, Bool, true, false, not, ◌&&◌, 
 use Rattle.hcl_tree.specs.declared.tree.Item.{Item}
 use Rattle.hcl_tree.specs.declared.tree.Item.TheVariants as item
 use Rattle.hcl_types.specs.declared.table.Row.{Row}
-use Rattle.hcl_types.specs.declared.fault.BindFault.{BindFault}
-use Rattle.hcl_types.specs.declared.fault.BindWhy.{BindWhy}
-use Rattle.hcl_types.specs.declared.fault.BindWhy.TheVariants as why
+use Rattle.hcl_binding.specs.declared.fault.BindFault.{BindFault}
+use Rattle.hcl_binding.specs.declared.fault.BindWhy.{BindWhy}
+use Rattle.hcl_binding.specs.declared.fault.BindWhy.TheVariants as why
 use Rattle.hcl_types.specs.Tables.{is_defined}
-use Rattle.hcl_types.specs.Binding.{definition, fault, item_fault, row_named}
+use Rattle.hcl_binding.specs.Binding.{definition, fault, item_fault, row_named}
 use Rattle.hcl_faults.specs.declared.binding.ItemFault.{ItemFault}
 
 -- an item's fault, if it has one, before those of the items behind it

@@ -1,16 +1,17 @@
 //! Every fault of binding, by binding one item after another.
 ghost use Rattle.std.specs.Prelude.{◌≡◌, ◌≢◌, ◌∷◌, ◌++◌, [], List, IfOk, OnOk, is_some, length, Some, Err};
 ghost use Rattle.hcl_tree.specs.declared.tree.Item.{Item};
-ghost use Rattle.hcl_types.specs.declared.fault.BindFault.{BindFault};
+ghost use Rattle.hcl_binding.specs.declared.fault.BindFault.{BindFault};
 ghost use Rattle.hcl_types.specs.declared.table.Row.{Row};
-ghost use Rattle.hcl_types.specs.Binding.{bound, definition, fault, item_fault, row_named};
+ghost use Rattle.hcl_binding.specs.Binding.{bound, definition, fault, item_fault, row_named};
 ghost use Rattle.hcl_types.specs.Tables.{IsSound};
-ghost use Rattle.hcl_types.specs.declared.fault.BindWhy.TheVariants.{Memory as OutOfMemory, Twice as Again};
+ghost use Rattle.hcl_binding.specs.declared.fault.BindWhy.TheVariants.{Memory as OutOfMemory, Twice as Again};
 ghost use Rattle.hcl_faults.specs.BindFaults as spec;
 
 use crate::lists::put;
+use hcl_binding::{BindFault, BindWhy, bind};
 use hcl_tree::{File, Item, Text};
-use hcl_types::{BindFault, BindWhy, Row, Table, bind, is_defined};
+use hcl_types::{Row, Table, is_defined};
 use std::alloc::Global;
 use y86_base::{Items, Memory};
 

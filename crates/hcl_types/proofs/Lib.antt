@@ -4,9 +4,3 @@ pub mod Each
 pub mod Related
 pub mod Orders
 pub mod Stores
-pub mod Naming
-pub mod Bound
-pub mod TermsOf
-pub mod Designs
-pub mod UsesOf
-pub mod Faulted

@@ -4,7 +4,3 @@ pub mod Equations
 pub mod Kinds
 pub mod Tables
 pub mod Signals
-pub mod Places
-pub mod Binding
-pub mod BindSteps
-pub mod Faults

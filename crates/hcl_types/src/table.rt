@@ -1,4 +1,7 @@
 //! Tables of signals: names, kinds and where values come from.
+ghost use Rattle.std.specs.Prelude.{◌≡◌};
+ghost use Rattle.hcl_types.specs.Tables as tables;
+
 use crate::term::{NameId, Term};
 use hcl_tree::Text;
 use y86_base::Items;
@@ -53,4 +56,16 @@ pub struct Design {
 #[derive(Debug, PartialEq, Drop)]
 pub struct Order {
     pub ids: Items<NameId>,
+}
+
+/// Whether a file must define the row.
+pub fn is_defined(role: &Role) -> bool
+    ensures { result ≡ tables.is_defined role.now }
+{
+    match role {
+        Role::Constant(_) => false,
+        Role::State => false,
+        Role::Hardware(_) => false,
+        Role::Defined => true,
+    }
 }

@@ -6,9 +6,10 @@ ghost use Rattle.tell_cli.specs.Explained.{HasDesign, HasDesignOver, IsOrdered, 
 
 use dp_signals::{law_of_tables, pipe_table};
 use finding_text::{CasePlace, ExplainedFile};
+use hcl_binding::{BindWhy, bind};
 use hcl_order::{OrderFault, order};
 use hcl_read::{HclWhy, read};
-use hcl_types::{BindWhy, Design, Order, Table, bind};
+use hcl_types::{Design, Order, Table};
 use seq_plus::law_of_table;
 use seq_requirements::{Datapath, table_of};
 use std::alloc::Global;

@@ -1,9 +1,9 @@
 //! The atoms of designs, and designs that have none.
 use ctl_atoms::{Atom, AtomKind, CtlFault, Leaf, atoms};
 use dp_signals::{law_of_tables, pipe_row as row, pipe_table};
+use hcl_binding::bind;
 use hcl_order::order;
 use hcl_read::read;
-use hcl_types::bind;
 use std::alloc::Global;
 use std::process::Abort;
 use std::test::Fail;

@@ -2,10 +2,11 @@
 ghost use Rattle.std.specs.Prelude.{◌<◌};
 
 use dp_signals::{constant_words, law_of_tables, pipe_table, seq_table};
+use hcl_binding::bind;
 use hcl_compile::{Ask, Node, ROWS, compile};
 use hcl_order::order;
 use hcl_read::read;
-use hcl_types::{NameId, Term, bind};
+use hcl_types::{NameId, Term};
 use std::test::Fail;
 use test_designs::Example;
 

@@ -3,10 +3,11 @@ ghost use Rattle.std.specs.Prelude.{◌≡◌};
 ghost use Rattle.dp_signals.specs.PipeTable.{pipe_rows};
 
 use dp_signals::{OrderedDesign, PipeState, constant_words, law_of_tables, pipe_table, solve_pipe};
+use hcl_binding::bind;
 use hcl_compile::compile;
 use hcl_order::order;
 use hcl_read::read;
-use hcl_types::{Plain, Table, bind};
+use hcl_types::{Plain, Table};
 use std::process::Abort;
 use std::test::Fail;
 use test_designs::Example;

@@ -4,12 +4,12 @@ use Rattle.hcl_read.specs.Read.{ReadsAs}
 use Rattle.hcl_tree.specs.declared.tree.File.{File}
 use Rattle.hcl_read.proofs.LawLemmas.{at_most_one_file}
 use Rattle.hcl_read.proofs.OneFault.{file_has_no_fault, one_fault}
-use Rattle.hcl_types.specs.Binding.{bound}
+use Rattle.hcl_binding.specs.Binding.{bound}
 use Rattle.hcl_types.specs.Equations.{needs_of}
 use Rattle.hcl_types.specs.Tables.{IsBound, IsOrderOf, IsSound, needs, row_names}
 use Rattle.hcl_types.specs.declared.table.Row.{Row}
 use Rattle.hcl_types.specs.declared.term.Term.{Term}
-use Rattle.hcl_types.proofs.Designs.{design_bound}
+use Rattle.hcl_binding.proofs.Designs.{design_bound}
 use Rattle.hcl_order.specs.Dependence.{Depends, FirstCycle}
 use Rattle.hcl_laws.proofs.Cycles.{cycle_is_one, one_first_cycle}
 use Rattle.hcl_laws.proofs.Orders.{order_there}

@@ -6,7 +6,7 @@ use Rattle.y86_base.specs.declared.parts.Variant.{Variant}
 use Rattle.hcl_read.proofs.LawLemmas.{at_most_one_file}
 use Rattle.hcl_read.proofs.OneFault.{file_has_no_fault}
 use Rattle.hcl_tree.specs.declared.tree.File.{File}
-use Rattle.hcl_types.specs.Binding.{bound}
+use Rattle.hcl_binding.specs.Binding.{bound}
 use Rattle.hcl_types.specs.Equations.{needs_of}
 use Rattle.hcl_types.specs.Tables.{needs}
 use Rattle.hcl_types.specs.declared.table.Row.{Row}

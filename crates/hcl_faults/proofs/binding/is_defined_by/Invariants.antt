@@ -1,5 +1,5 @@
 use Rattle.std.proofs.Common.{◌≡◌, drop, is_some}
-use Rattle.hcl_types.specs.Binding.{definition}
+use Rattle.hcl_binding.specs.Binding.{definition}
 use Rattle.hcl_faults.proofs.binding.is_defined_by.Given as goal
 
 abbrev pub invariant-loop-item : goal.invariant-loop-item

@@ -1,5 +1,5 @@
 use Rattle.std.proofs.Common.{◌≡◌, drop}
-use Rattle.hcl_types.specs.Binding.{row_named}
+use Rattle.hcl_binding.specs.Binding.{row_named}
 use Rattle.hcl_faults.specs.BindFaults.{must_define}
 use Rattle.hcl_faults.proofs.binding.must_define.Given as goal
 

@@ -1,5 +1,0 @@
-use Rattle.std.proofs.Common.{length}
-use Rattle.fault_report.proofs.hcl_binding.needs_text.Given as goal
-
-abbrev pub decreases-ids : goal.decreases-ids
-decreases-ids l = length l.rest

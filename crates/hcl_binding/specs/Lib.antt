@@ -1,0 +1,4 @@
+pub mod Binding
+pub mod BindSteps
+pub mod Faults
+pub mod Places
