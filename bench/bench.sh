@@ -1,6 +1,6 @@
 #!/usr/bin/env bash
-# Measures the built program on generated inputs, the program of measures, and the gate from nothing and with everything kept. It prints rows of the
-# table of BENCH.md. With the word `program` it leaves the gate out.
+# Measures the built program on generated inputs, the program of measures, and `rt ci`. It prints rows of the table of BENCH.md.
+# With the word `program` it leaves `rt ci` out.
 here=$(cd "$(dirname "$0")/.." && pwd) || exit 1
 work=$(mktemp -d) || exit 1
 trap 'rm -rf "$work"' EXIT
@@ -25,32 +25,6 @@ fastest() {
         "$here/y86" "$@" >"$work/out"
         echo "$start $EPOCHREALTIME"
     done | awk 'NR == 1 || $2 - $1 < best { best = $2 - $1 } END { printf "%.3f", best }'
-}
-
-# The memory in KiB of the processes of a session, with what several of them share counted once.
-memory_of() {
-    for process in $(pgrep -s "$1"); do
-        cat "/proc/$process/smaps_rollup" 2>/dev/null
-    done | awk '/^Pss:/ { sum += $2 } END { print sum + 0 }'
-}
-
-# A row of the table: a run of the gate, its time and the most memory that it had at the end of a second.
-gate() {
-    name=$1
-    shift
-    start=$EPOCHSECONDS
-    (cd "$here" && exec setsid rt ci "$@") >"$work/gate" 2>&1 &
-    session=$!
-    peak=0
-    while kill -0 "$session" 2>/dev/null; do
-        now=$(memory_of "$session")
-        [ "$now" -gt "$peak" ] && peak=$now
-        sleep 1
-    done
-    wait "$session"
-    status=$?
-    seconds=$((EPOCHSECONDS - start))
-    echo "| $name | $((seconds / 60)) min $((seconds % 60)) s, $((peak / 1024)) MiB, status $status: $(tail -1 "$work/gate") |"
 }
 
 "$here/y86" yas "$work/loop.ys" >"$work/loop.yo" || exit 1
@@ -90,5 +64,4 @@ measure "nodes adders 32"
 measure "nodes queens 8"
 measure "nodes words 18"
 [ "$1" = program ] && exit 0
-gate "the gate from nothing, \`rt ci --anew\`" --anew
-gate "the gate with everything kept, \`rt ci\`"
+python3 "$here/bench/gate.py"

@@ -1,0 +1,141 @@
+#!/usr/bin/env python3
+"""Measures a run of the gate: `python3 bench/gate.py [--crates] [COMMAND ..]`, by default `rt ci`.
+
+It prints rows of the table of docs/BENCH.md: the time, the processor time, the largest process, the time of each kind of work, and the longest path of
+crates that have to be proved one after another. With `--crates` it also prints the figures of each crate. The output of the command goes to standard error.
+`./prove` can be measured too.
+
+Every second it looks at the provers of the run. A prover is a process with the argument `--crate-name`, so the processor time of a crate can lack the last
+second of each of its processes. The processor time of the whole run is exact.
+"""
+import argparse
+import glob
+import os
+import re
+import resource
+import subprocess
+import sys
+import time
+
+TOP = os.path.dirname(os.path.dirname(os.path.realpath(__file__)))
+TICKS = os.sysconf("SC_CLK_TCK")
+KINDS = ("proofs", "tests", "edits")
+
+
+class Prover:
+    """A process of the prover: its crate, its kind of work, when it was seen, its processor time in seconds and its peak memory in MB."""
+
+    def __init__(self, crate, kind, now):
+        self.crate, self.kind, self.first, self.last = crate, kind, now, now
+        self.seconds, self.memory = 0.0, 0
+
+
+def crate_and_kind(process):
+    """The crate that a process works on, and the kind of work; None for any other process."""
+    with open(f"{process}/cmdline", encoding="utf-8", errors="replace") as it:
+        words = it.read().split("\0")
+    if "--crate-name" not in words:
+        return None
+    crate = words[words.index("--crate-name") + 1]
+    is_edit = "rt-edit" in os.readlink(f"{process}/cwd")
+    return crate, "edits" if is_edit else "tests" if "--test" in words else "proofs"
+
+
+def look(session, provers):
+    """Notes what the provers of a session have used."""
+    now = time.monotonic()
+    for process in glob.glob("/proc/[0-9]*"):
+        try:
+            with open(f"{process}/stat", encoding="utf-8") as it:
+                fields = it.read().rpartition(")")[2].split()
+            found = int(fields[3]) == session and crate_and_kind(process)
+            with open(f"{process}/status", encoding="utf-8") as it:
+                peak = re.search(r"VmHWM:\s+(\d+)", it.read())
+        except (OSError, ValueError):
+            # (the process has ended)
+            continue
+        if not found:
+            continue
+        # (a number of a process can be used again)
+        prover = provers.setdefault((process, fields[19]), Prover(*found, now))
+        prover.last, prover.seconds = now, (int(fields[11]) + int(fields[12])) / TICKS
+        if peak:
+            prover.memory = max(prover.memory, int(peak[1]) // 1024)
+
+
+def needs():
+    """The crates of the repository that each crate needs, lowest first."""
+    found = {}
+    with open(f"{TOP}/crates.txt", encoding="utf-8") as file:
+        for line in file:
+            name, colon, below = line.partition("#")[0].partition(":")
+            if colon:
+                found[name.strip()] = [it for it in below.split() if it in found]
+    return found
+
+
+def longest_path(below, seconds):
+    """The crates that have to be proved one after another on the path that takes longest, after its seconds."""
+    ends = {}
+    for crate, lower in below.items():
+        best = max((ends[it] for it in lower), default=(0.0, []), key=lambda it: it[0])
+        ends[crate] = best[0] + seconds.get(crate, 0.0), [*best[1], crate]
+    return max(ends.values(), key=lambda it: it[0])
+
+
+def spans(provers):
+    """The seconds from the first to the last sight of each crate's proof."""
+    times = {}
+    for it in provers:
+        if it.kind == "proofs":
+            times.setdefault(it.crate, []).extend((it.first, it.last))
+    return {crate: max(seen) - min(seen) for crate, seen in times.items()}
+
+
+def minutes(seconds):
+    return f"{seconds / 60:.0f} minutes"
+
+
+def report(provers, wall, processor):
+    """Prints the rows of the table."""
+    total = {kind: sum(it.seconds for it in provers if it.kind == kind) for kind in KINDS}
+    print(f"| time | {minutes(wall)} |")
+    print(f"| processor time | {minutes(processor)} |")
+    print(f"| of this for {', '.join(KINDS)} | {', '.join(minutes(total[kind]) for kind in KINDS)} |")
+    if provers:
+        largest = max(provers, key=lambda it: it.memory)
+        print(f"| the largest process | {largest.memory / 1000:.1f} GB, of `{largest.crate}` |")
+        seconds, path = longest_path(needs(), spans(provers))
+        print(f"| the longest path of crates | {minutes(seconds)}: {', '.join(f'`{it}`' for it in path)} |")
+
+
+def report_crates(provers):
+    """Prints a row for each crate: seconds of its proof, processor seconds of each kind of work, and peak memory in MB."""
+    wall = spans(provers)
+    print(f"crate seconds {' '.join(KINDS)} memory")
+    for crate in sorted({it.crate for it in provers}, key=lambda it: -wall.get(it, 0)):
+        own = [it for it in provers if it.crate == crate]
+        kinds = " ".join(f"{sum(it.seconds for it in own if it.kind == kind):.0f}" for kind in KINDS)
+        print(f"{crate} {wall.get(crate, 0):.0f} {kinds} {max(it.memory for it in own)}")
+
+
+def main():
+    parser = argparse.ArgumentParser(description=__doc__.partition("\n")[0])
+    parser.add_argument("--crates", action="store_true", help="print the figures of each crate too")
+    parser.add_argument("command", nargs=argparse.REMAINDER, help="what to run at the top of the repository: rt ci, if it is left out")
+    arguments = parser.parse_args()
+    start = time.monotonic()
+    run = subprocess.Popen(arguments.command or ["rt", "ci"], cwd=TOP, stdin=subprocess.DEVNULL, stdout=sys.stderr, start_new_session=True)
+    provers = {}
+    while run.poll() is None:
+        look(run.pid, provers)
+        time.sleep(1)
+    used = resource.getrusage(resource.RUSAGE_CHILDREN)
+    report([*provers.values()], time.monotonic() - start, used.ru_utime + used.ru_stime)
+    if arguments.crates:
+        report_crates([*provers.values()])
+    return run.returncode
+
+
+if __name__ == "__main__":
+    sys.exit(main())
