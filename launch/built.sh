@@ -31,7 +31,7 @@ mark() {
 }
 
 is_current() {
-    [ -x "$program" ] && [ ! -e "$out/building" ] || return 1
+    [ -x "$program" ] || return 1
     if [ ! -f "$built" ] || [ "$program" -nt "$built" ]; then
         # `rt ci` leaves no mark; it reads the sources once it has its lock, so none may have changed since.
         began=$here/.git/rt-ci.lock

@@ -1,18 +1,20 @@
-"""Proves the crates that programs stand on, and builds the programs."""
+"""Proves the crates that programs need, and builds the programs."""
 import os
 import re
 import shutil
 import signal
 import subprocess
 import sys
+import tempfile
 import time
 
-# A job of the prover takes up to so much memory.
+# A job of the prover takes up to so much memory, in bytes.
 OF_A_JOB = 2_000_000_000
 # A line comes at least so often, in seconds.
 SILENT_FOR = 60
-# A crate that is proved alone, by fewer jobs than there are, begins again with all of them after so many seconds, over what it kept.
-ALONE_FOR = 20
+# What `rt ci` says of a crate.
+PROVED = re.compile(r"^rt: (\w+) (?:proved|is kept)$", re.M)
+NOT_PROVED = re.compile(r"^rt: (\w+) NOT PROVED\b", re.M)
 
 
 class Stopped(Exception):
@@ -24,7 +26,7 @@ def tell(text):
 
 
 def crates_of(here, programs):
-    """Returns the crates of the programs and those that they stand on, each with those right below it, lowest first."""
+    """Returns the crates of the programs and those that they need, each with those that it needs directly, lowest first."""
     listed = {}
     with open(f"{here}/crates.txt", encoding="utf-8") as file:
         for line in file:
@@ -65,126 +67,78 @@ def jobs_at_once():
     return max(number, 1)
 
 
-class Run:
-    """A run of the prover over one crate. What it says goes to the file `build.log` of the crate's folder `out/`."""
-
-    def __init__(self, here, crate, verb, jobs):
-        self.crate, self.verb, self.jobs = crate, verb, jobs
-        self.out = f"{here}/crates/{crate}/out"
-        os.makedirs(self.out, exist_ok=True)
-        # (two calls may prove at once)
-        self.log = f"{self.out}/build.log.{os.getpid()}"
-        with open(self.log, "wb") as log:
-            how = {"cwd": f"{here}/crates/{crate}", "stdin": subprocess.DEVNULL, "stdout": log, "stderr": subprocess.STDOUT}
-            self.command = subprocess.Popen(["rt", verb, "--jobs", str(jobs)], **how)
-        self.start = time.monotonic()
-
-    def is_running(self):
-        return self.command.poll() is None
-
-    def said(self):
-        with open(self.log, encoding="utf-8", errors="replace") as it:
-            return it.read()
-
-    def so_far(self):
-        """Returns the crate, and how much of it is checked where the prover said it last."""
-        found = re.search(r"^so far: (\d+ of \d+ functions)[^\n]*\n\Z", self.said(), re.M)
-        return f"{self.crate} ({found[1]})" if found else self.crate
-
-    def has_proved(self):
-        # (a program is run with no words, which has a status of its own)
-        return bool(re.search(r"^rt: running ", self.said(), re.M)) if self.verb == "run" else self.command.returncode == 0
-
-    def end(self):
-        if self.is_running():
-            self.command.terminate()
-        self.command.wait()
-        os.replace(self.log, f"{self.out}/build.log")
+def copied(here, crates, room):
+    """Makes a repository of these crates alone, without must-fail edits."""
+    with open(f"{here}/crates.txt", encoding="utf-8") as it:
+        lines = [line for line in it if line.partition(":")[0].strip() in crates]
+    with open(f"{room}/crates.txt", "w", encoding="utf-8") as it:
+        it.writelines(lines)
+    if os.path.isfile(f"{here}/HANDLES"):
+        shutil.copy(f"{here}/HANDLES", room)
+    for name in crates:
+        shutil.copytree(f"{here}/crates/{name}", f"{room}/crates/{name}", ignore=shutil.ignore_patterns("out", "must-fail"))
 
 
 class Proof:
-    """The proof of all crates that programs stand on. As many crates are proved at once as there are jobs, those that most others wait for first."""
+    """A run of the gate's proofs, `rt ci`, over a copy of the crates that programs need. What it says goes to the file `log`."""
 
-    def __init__(self, here, programs):
-        self.here, self.programs = here, programs
-        self.crates = crates_of(here, programs)
-        self.heights = self.heights_of()
-        self.jobs = jobs_at_once()
-        self.proved, self.runs = [], []
-        self.start = self.told = time.monotonic()
-
-    def heights_of(self):
-        """Returns for each crate how many crates have to be proved one after another from it on."""
-        heights = {}
-        for name in reversed(self.crates):
-            heights[name] = 1 + max((heights[upper] for upper, below in self.crates.items() if name in below), default=0)
-        return heights
+    def __init__(self, room, number, log):
+        self.log, self.number, self.told = log, number, []
+        with open(log, "wb") as to:
+            how = {"cwd": room, "stdin": subprocess.DEVNULL, "stdout": to, "stderr": subprocess.STDOUT, "start_new_session": True}
+            self.command = subprocess.Popen(["rt", "ci"], **how)
+        self.start = self.last = time.monotonic()
 
     def since(self):
         seconds = int(time.monotonic() - self.start)
         return f"{seconds // 60} min {seconds % 60} s"
 
-    def tell(self, text):
-        self.told = time.monotonic()
-        tell(text)
+    def said(self):
+        with open(self.log, encoding="utf-8", errors="replace") as it:
+            return it.read()
 
-    def ready(self):
-        """Returns the crates that can be begun now, those that most wait for first."""
-        begun = {*self.proved, *(run.crate for run in self.runs)}
-        found = [name for name, below in self.crates.items() if name not in begun and all(it in self.proved for it in below)]
-        return sorted(found, key=lambda name: -self.heights[name])
-
-    def begin(self, crate, jobs):
-        is_program = crate in self.programs
-        if is_program:
-            # (a program that is half written isn't taken for one that is built)
-            os.makedirs(f"{self.here}/crates/{crate}/out", exist_ok=True)
-            with open(f"{self.here}/crates/{crate}/out/building", "w", encoding="utf-8"):
-                pass
-        self.runs.append(Run(self.here, crate, "run" if is_program else "lib", jobs))
-
-    def begin_ready(self):
-        """Begins as many crates as there are jobs; the jobs are shared among them."""
-        ready = self.ready()
-        while ready and (free := self.jobs - sum(run.jobs for run in self.runs)) > 0:
-            self.begin(ready.pop(0), max(free // (len(ready) + 1), 1))
-
-    def begin_again(self):
-        """Has a crate that is proved alone begin again with all jobs."""
-        if len(self.runs) == 1 and self.runs[0].jobs < self.jobs and time.monotonic() - self.runs[0].start >= ALONE_FOR:
-            run = self.runs.pop()
-            run.end()
-            self.begin(run.crate, self.jobs)
-
-    def note_ended(self):
-        """Notes the crates whose run has ended, and stops where one has no proof."""
-        for run in [it for it in self.runs if not it.is_running()]:
-            self.runs.remove(run)
-            run.end_is_proved = run.has_proved()
-            run.end()
-            if not run.end_is_proved:
-                raise Stopped(f"no proof of {run.crate}; {run.out}/build.log says why")
-            self.proved.append(run.crate)
-            self.tell(f"{run.crate} is proved, {len(self.proved)} of {len(self.crates)}, after {self.since()}")
-
-    def now(self):
-        return ", ".join(run.so_far() for run in self.runs)
+    def tell_news(self):
+        """Says which crates have been proved since it was last called, and now and then that nothing has."""
+        for crate in PROVED.findall(self.said())[len(self.told):]:
+            self.told.append(crate)
+            self.last = time.monotonic()
+            tell(f"{crate} is proved, {len(self.told)} of {self.number}, after {self.since()}")
+        if time.monotonic() - self.last >= SILENT_FOR:
+            self.last = time.monotonic()
+            tell(f"{len(self.told)} of {self.number} are proved, after {self.since()}")
 
     def run(self):
-        self.tell(f"proving {len(self.crates)} crates, {self.jobs} jobs at once; from nothing that takes half an hour to an hour on four processors")
+        """Waits for the end. Raises Stopped if something has no proof."""
         try:
-            while len(self.proved) < len(self.crates):
-                self.begin_ready()
-                time.sleep(0.1)
-                self.note_ended()
-                if not self.ready():
-                    self.begin_again()
-                if time.monotonic() - self.told >= SILENT_FOR:
-                    self.tell(f"at {self.now()}; {len(self.proved)} of {len(self.crates)} are proved, after {self.since()}")
+            while self.command.poll() is None:
+                time.sleep(0.2)
+                self.tell_news()
         finally:
-            self.at_end = ", ".join(run.crate for run in self.runs)
-            for run in self.runs:
-                run.end()
+            self.end()
+        self.tell_news()
+        if self.command.returncode:
+            failed = NOT_PROVED.search(self.said())
+            raise Stopped(f"{f'no proof of {failed[1]}' if failed else 'the proof failed'}; {self.log} says why")
+
+    def end(self):
+        """Ends `rt ci` and the provers that it began."""
+        if self.command.poll() is None:
+            os.killpg(self.command.pid, signal.SIGTERM)
+        self.command.wait()
+
+
+def taken_over(here, room, crates, programs):
+    """Brings the proved libraries and the programs from the copy into the repository."""
+    for name in crates:
+        made, out = f"{room}/crates/{name}/out", f"{here}/crates/{name}/out"
+        os.makedirs(out, exist_ok=True)
+        if os.path.isdir(f"{made}/rlib"):
+            shutil.rmtree(f"{out}/rlib", ignore_errors=True)
+            shutil.copytree(f"{made}/rlib", f"{out}/rlib")
+        if name in programs:
+            # (a program that is half written isn't taken for one that is built)
+            shutil.copy(f"{made}/{name}", f"{out}/{name}.{os.getpid()}")
+            os.replace(f"{out}/{name}.{os.getpid()}", f"{out}/{name}")
 
 
 def sources(here, program, *words):
@@ -204,11 +158,26 @@ def are_built(programs):
 
 def mark(here, program, sum_before):
     """Notes that a program is built, from which sources and by which toolchain."""
-    out = f"{here}/crates/{program}/out"
     sources(here, program, "mark", sum_before)
-    with open(f"{out}/toolchain", "w", encoding="utf-8") as it:
+    with open(f"{here}/crates/{program}/out/toolchain", "w", encoding="utf-8") as it:
         subprocess.run(["rt", "version"], stdout=it, check=False)
-    os.remove(f"{out}/building")
+
+
+def proved(here, programs, room):
+    """Proves the programs in a copy in the folder `room`, and brings them into the repository. Returns how long that took."""
+    crates = crates_of(here, programs)
+    sums = {it: sources(here, it, "sum")[1] for it in programs}
+    copied(here, crates, room)
+    os.makedirs(f"{here}/crates/{programs[0]}/out", exist_ok=True)
+    tell(f"proving {len(crates)} crates; that takes half an hour to an hour on four processors")
+    proof = Proof(room, len(crates), f"{here}/crates/{programs[0]}/out/prove.log")
+    proof.run()
+    if any(sources(here, it, "sum")[1] != sums[it] for it in programs):
+        raise Stopped("sources changed during the proof: run this again")
+    taken_over(here, room, crates, programs)
+    for it in programs:
+        mark(here, it, sums[it])
+    return proof.since()
 
 
 def build(here, programs):
@@ -222,20 +191,13 @@ def build(here, programs):
         return 127
     for number in (signal.SIGHUP, signal.SIGINT, signal.SIGTERM):
         signal.signal(number, broken_off)
-    sums = {it: sources(here, it, "sum")[1] for it in wanted}
-    proof = Proof(here, wanted)
     try:
-        proof.run()
+        with tempfile.TemporaryDirectory(prefix="y86-proof-") as room:
+            tell(f"{are_built(wanted)}, after {proved(here, wanted, room)}")
     except KeyboardInterrupt:
-        tell(f"broken off after {proof.since()}, in {proof.at_end}; what was proved is kept")
+        tell("broken off: nothing is built")
         return 130
     except Stopped as why:
         tell(str(why))
         return 1
-    if any(sources(here, it, "sum")[1] != sums[it] for it in wanted):
-        tell("sources changed during the proof: run this again")
-        return 1
-    for it in wanted:
-        mark(here, it, sums[it])
-    tell(f"{are_built(wanted)}, after {proof.since()}")
     return 0

@@ -9,6 +9,7 @@ import pytest
 
 from helpers.cases import same
 from helpers.repository import CHANGED, COMPILED, PROGRAM, Repository, first_line
+from proving import jobs_at_once
 
 ALL = ("low", "left", "right", "high", "y86")
 BUILT = "y86: y86 is built, and no source has changed since\n"
@@ -20,14 +21,14 @@ def repository(folder):
     return Repository(folder)
 
 
-def with_jobs(repository, jobs=3, programs=("y86",), silent_for=60, alone_for=20):
-    """The words that prove with a number of jobs."""
+def without_pause(repository):
+    """The words that prove, and that say each moment how far it is."""
     code = f"""\
 import sys
 sys.path.insert(0, '{repository.top}/launch')
 import proving
-proving.jobs_at_once, proving.SILENT_FOR, proving.ALONE_FOR = lambda: {jobs}, {silent_for}, {alone_for}
-sys.exit(proving.build('{repository.top}', {programs!r}))"""
+proving.SILENT_FOR = 0
+sys.exit(proving.build('{repository.top}', ('y86',)))"""
     return ["python3", "-c", code]
 
 
@@ -37,6 +38,19 @@ def without_times(said):
 
 def is_proved_lines(said):
     return [it for it in without_times(said).splitlines() if " is proved" in it]
+
+
+def until(run, said):
+    """Reads what a proof says up to this line."""
+    while (line := run.stderr.readline().decode()) and said not in line:
+        pass
+    return without_times(line)
+
+
+def begun(repository):
+    """A proof in which the crate `right` takes a minute."""
+    repository.write("crates/right/src/lib.rt", "takes 60 s")
+    return subprocess.Popen(without_pause(repository), env=repository.environment(), stderr=subprocess.PIPE, cwd=repository.work)
 
 
 # ---- a proof that fails, or isn't begun
@@ -50,70 +64,44 @@ def test_words_that_are_none(repository):
     same((status, out, err.startswith("usage: prove ")), (2, "", True))
 
 
-@pytest.mark.parametrize("jobs", (1, 3))
 @pytest.mark.parametrize("crate", ("right", "high"))
-def test_a_crate_without_a_proof(crate, jobs, repository):
+def test_a_crate_without_a_proof(crate, repository):
     repository.write(f"crates/{crate}/src/lib.rt", "no proof")
-    status, _, err = repository.run(with_jobs(repository, jobs))
-    said = f"y86: no proof of {crate}; {repository.out(crate)}/build.log says why"
+    status, _, err = repository.run([repository.prove])
+    said = f"y86: no proof of {crate}; {repository.out()}/prove.log says why"
     same((status, err.splitlines()[-1], os.path.exists(f"{repository.out()}/y86")), (1, said, False))
 
 
 def test_the_log_of_a_crate_without_a_proof(repository):
     repository.write("crates/right/src/lib.rt", "no proof")
     repository.run([repository.prove])
-    with open(f"{repository.out('right')}/build.log", encoding="utf-8") as it:
-        same(it.read().splitlines()[-1], "logic=not-proved functions=1")
+    with open(f"{repository.out()}/prove.log", encoding="utf-8") as it:
+        same(it.read().splitlines()[-1], "rt: right NOT PROVED")
 
 
-@pytest.fixture
-def broken_off(repository):
-    """A proof that is broken off in a crate: what it said before, its status, and what it said then."""
-    repository.write("crates/right/src/lib.rt", "takes 60 s")
-    how = {"env": repository.environment(), "stderr": subprocess.PIPE, "cwd": repository.work}
-    with subprocess.Popen(with_jobs(repository, silent_for=0), **how) as run:
-        while (before := run.stderr.readline()) and b"y86: at right (3 of 8 functions); 2 of 5" not in before:
-            pass
+def test_a_proof_that_is_broken_off(repository):
+    with begun(repository) as run:
+        said = until(run, "2 of 5 are")
         run.send_signal(signal.SIGTERM)
-        said = run.communicate(timeout=60)[1].decode()
-    return before.decode(), run.returncode, without_times(said)
+        last = run.communicate(timeout=60)[1].decode().splitlines()[-1]
+    same((said, run.returncode, last), ("y86: 2 of 5 are proved, after TIME\n", 130, "y86: broken off: nothing is built"))
 
 
-def test_a_proof_that_is_broken_off(broken_off):
-    same(broken_off[1:], (130, "y86: broken off after TIME, in right; what was proved is kept\n"))
-
-
-def test_how_much_of_a_crate_is_checked(broken_off):
-    same(without_times(broken_off[0]), "y86: at right (3 of 8 functions); 2 of 5 are proved, after TIME\n")
+def test_a_source_that_changes_during_the_proof(repository):
+    repository.write("crates/right/src/lib.rt", "takes 2 s")
+    with subprocess.Popen(without_pause(repository), env=repository.environment(), stderr=subprocess.PIPE, cwd=repository.work) as run:
+        until(run, "2 of 5 are")
+        repository.write("crates/low/src/lib.rt", "// changed")
+        last = run.communicate(timeout=60)[1].decode().splitlines()[-1]
+    same((run.returncode, last), (1, "y86: sources changed during the proof: run this again"))
+    same(os.path.exists(f"{repository.out()}/y86"), False)
 
 
 # ---- a proof that succeeds
 
 def test_a_proof(repository):
-    status, _, err = repository.run(with_jobs(repository, jobs=1))
+    status, _, err = repository.run([repository.prove])
     same((status, is_proved_lines(err)), (0, [f"y86: {name} is proved, {number} of 5, after TIME" for number, name in enumerate(ALL, 1)]))
-
-
-def test_what_it_is_at(repository):
-    repository.write("crates/high/src/lib.rt", "takes 1 s")
-    err = repository.run(with_jobs(repository, silent_for=0))[2]
-    assert re.search(r"^y86: at high( \(3 of 8 functions\))?; 3 of 5 are proved, after TIME$", without_times(err), re.M), err
-
-
-def test_jobs_are_shared(repository):
-    """Crates that are proved side by side share the jobs; one that others wait for gets all."""
-    repository.write("crates/left/src/lib.rt", "takes 1 s")
-    repository.write("crates/right/src/lib.rt", "takes 1 s")
-    repository.run(with_jobs(repository))
-    first, *side_by_side, upper, last = repository.calls()
-    same((first, sorted(side_by_side), upper, last), ("low lib --jobs 3", ["left lib --jobs 1", "right lib --jobs 2"], "high lib --jobs 3", "y86 run --jobs 3"))
-
-
-def test_the_last_of_several_gets_all_jobs(repository):
-    """A crate that is left alone begins again with all jobs, over what it kept."""
-    repository.write("crates/left/src/lib.rt", "takes 3 s")
-    repository.run(with_jobs(repository, alone_for=0.5))
-    same([it for it in repository.calls() if "left" in it], ["left lib --jobs 1", "left lib --jobs 3"])
 
 
 def test_no_crate_that_the_program_does_not_stand_on_is_proved(repository):
@@ -122,12 +110,9 @@ def test_no_crate_that_the_program_does_not_stand_on_is_proved(repository):
 
 
 def test_programs_are_proved_together(repository):
-    """The crates of the second program don't wait for the first one."""
     repository.add_program("y86_stages", "other", below="right")
-    repository.write("crates/high/src/lib.rt", "takes 2 s")
     status, _, err = repository.run([repository.prove])
-    lines = is_proved_lines(err)
-    same((status, len(lines), [it.split()[1] for it in lines[-2:]]), (0, 6, ["high", "y86"]))
+    same((status, [it.split()[1] for it in is_proved_lines(err)]), (0, [*ALL, "y86_stages"]))
 
 
 def test_each_of_several_programs_is_built(repository):
@@ -143,10 +128,8 @@ def test_that_several_are_built_is_said(repository):
     same((first, second), ("y86: y86 and y86-stages are built, after TIME", "y86: y86 and y86-stages are built, and no source has changed since"))
 
 
-def test_the_jobs_fit_the_machine(repository):
-    status = repository.run([repository.prove])[0]
-    jobs = int(repository.calls()[-1].rpartition(" ")[2])
-    same((status, 1 <= jobs <= len(os.sched_getaffinity(0))), (0, True))
+def test_the_jobs_fit_the_machine():
+    assert 1 <= jobs_at_once() <= len(os.sched_getaffinity(0))
 
 
 # ---- the program is built, and sources change
@@ -180,11 +163,6 @@ def test_it_answers_with_no_toolchain(built):
 
 def test_nothing_is_proved_twice(built):
     same(built.run([built.prove]), (0, "", BUILT))
-
-
-def test_a_program_that_may_be_half_written(built):
-    built.write("crates/y86/out/building", "")
-    same(say(built), changed(built))
 
 
 def test_a_change_of_a_test(built):
