@@ -86,7 +86,7 @@ impl Names {
         Ok(true)
     }
 
-    /// Adds the name in a token, if it is one, and returns whether the names are still at most 256; if not, they don't
+    /// Adds a token's name, if it has one, and returns whether the names are still at most 256; if not, they don't
     /// change.
     #[tactic(auto, unfolding(crate::specs::Fault::noted))]
     pub fn note(&mut self, alloc: Global, token: &Token) -> Result<bool, Memory>

@@ -13,7 +13,7 @@ pub enum Watched {
     /// In this number of steps no instruction fetched what one of the three before it stored; and whether the program
     /// has then stopped.
     Apart(u64, bool),
-    /// The first instruction that did.
+    /// The first instruction that fetched what one of the three before it stored.
     Meets(NearFetch),
 }
 

@@ -13,11 +13,16 @@ ghost use Rattle.cli_plans.specs.PlanFollowing.{FilesState, SinkState};
 ghost use Rattle.y86_cli.specs.CallContract.{CallContract};
 ghost use Rattle.y86_words.specs.Forms.{form_of, psim, yis};
 
-/// The theorem for your pipeline and your program. Suppose that `check pipe` accepted the HCL file, that the object
-/// file loads, and that `watch` of its image finds that the program stops in `steps` steps and fetches nothing that one
-/// of the three instructions before stored. Then `psim` of both, with a limit of at least five cycles for each step,
-/// prints the trace and the report of the run by instructions, within that time. `yis` prints the same report with the
-/// same status. Excepted are calls with a failed read, a failed write or too little memory.
+/// The theorem for your pipeline and your program. Suppose that:
+///
+/// - `check pipe` accepted the HCL file;
+/// - the object file loads;
+/// - `watch` of its image finds that the program stops in `steps` steps, and that it fetches nothing that one of the
+///   three instructions before stored.
+///
+/// Then `psim` of both, with a limit of at least five cycles for each step, prints the trace and the report of the run
+/// by instructions, within that time. `yis` prints the same report with the same status. Excepted are calls with a
+/// failed read, a failed write or too little memory.
 pub fn law_of_checked_programs()
     ensures psim { (words : List (List ℕ)) (name object text bytes image : List ℕ) (size limit most steps : ℕ) (trace : Bool) (v : Variant)
         (files_before files_after : FilesState) (out_before out_after err_before err_after : SinkState) (status : ℕ) →

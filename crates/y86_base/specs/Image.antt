@@ -8,7 +8,7 @@ pub record IsSize (size : ℕ) : Type 0 where
   pub most : size ≤ 1048576
   pub whole_words : size % 8 ≡ 0
 
--- the same as a test
+-- the test whether a size is permitted
 unfoldable pub is_image_size : ℕ → Bool
 is_image_size size = nat_le 64 size && nat_le size 1048576 && size % 8 == 0
 

@@ -8,7 +8,7 @@ abbrev pub stat_of : ℕ → Stat
 stat_of n =
     if n == 0 then Bub else (if n == 1 then Aok else (if n == 2 then Hlt else (if n == 3 then Adr else (if n == 4 then Ins else Bad))))
 
--- the number of a status, which `stat_of` reads back; 5 and 6 are for the two that have no number of their own
+-- the number of a status: 0 to 4, which `stat_of` reads back; 5 and 6 are for the two that have no number in HCL
 abbrev pub stat_number : Stat → ℕ
 stat_number Bub = 0
 stat_number Aok = 1

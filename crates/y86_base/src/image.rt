@@ -41,7 +41,7 @@ pub fn is_image_size(size: u64) -> bool
 }
 
 impl Image {
-    /// The smallest permitted size, in bytes; below it the largest.
+    /// The smallest permitted size in bytes; `MOST` is the largest.
     pub const LEAST: u64 = 64;
 
     pub const MOST: u64 = 1_048_576;

@@ -52,7 +52,7 @@ impl Stat {
         }
     }
 
-    /// The number of a status, which `of` reads back: 0 to 4; 5 for `Pip` and 6 for `Bad`, which have no number in HCL.
+    /// The number of a status: 0 to 4, which `of` reads back; 5 for `Pip` and 6 for `Bad`, which have no number in HCL.
     pub fn number(self) -> u64
         ensures { result ≡ stat_number self }
     {

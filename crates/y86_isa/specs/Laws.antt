@@ -1,4 +1,4 @@
--- What a step may change, stated so that a reader can check it against CS:APP.
+-- What a step may change, in the book's terms.
 use Rattle.std.specs.Prelude.{◌≡◌, ◌≢◌, ℕ, ◌+◌, ◌%◌, ◌^◌, ◌<◌, ◌≤◌, ◌⊎◌, true, false, List, length, Some, option_map, IfSome, if◌then◌else◌}
 use Rattle.y86_base.specs.Image.{word_at}
 use Rattle.y86_base.specs.Registers.{register}

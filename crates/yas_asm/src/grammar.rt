@@ -82,7 +82,7 @@ fn memory<'a>(reader: &mut Reader<'a>) -> Option<(Operand<'a>, u8)>
     Some((displacement, base))
 }
 
-/// A number that is not negative; None inside for one of 2^64 or more.
+/// A number that is not negative; the inner None means one of 2^64 or more.
 #[tactic(auto, unfolding(crate::specs::Grammar::natural))]
 fn natural(reader: &mut Reader) -> Option<Option<u64>>
     ensures { LeavesRest result (grammar.natural reader.old) reader.new }

@@ -5,7 +5,7 @@ ghost use Rattle.y86_isa.specs.Run.{records_from, run_from};
 use y86_base::{Stat, Variant};
 use y86_isa::{Machine, do_step};
 
-/// The result of a run, beside the machine.
+/// The result of a run, apart from the machine, which the run changes in place.
 #[derive(Clone, Copy, Debug, PartialEq, Eq)]
 pub struct Ran {
     /// How many instructions it executed.

@@ -1,4 +1,4 @@
--- What one instruction of a run does, as the proofs about processors use it.
+-- What one instruction of a run does, in the book's terms.
 use Rattle.std.specs.Prelude.{◌≡◌, ◌≢◌, ℕ, ◌+◌, ◌<◌, true, false, ◌==◌, List, if◌then◌else◌}
 use Rattle.y86_base.specs.Registers.{register}
 use Rattle.y86_base.specs.declared.parts.Stat.{Stat}
