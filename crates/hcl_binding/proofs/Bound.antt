@@ -1,4 +1,4 @@
--- Putting the items one after the other gives the design or the fault of the definition.
+-- Binding item by item gives the design, or the fault, of the definition.
 use Rattle.std.proofs.Common.{◌≡◌, ℕ, zero, suc, ◌<◌, Bool, true, false, not, ◌&&◌, cond, if◌then◌else◌, List, [], ◌∷◌, ◌++◌, map, length, get_or, slice_get, slice_set, position, is_some, Option, Some, None, Result, Ok, Err, option_and_then, refl, sym, ap, ◌∙◌, subst, inl, inr, nat_eq, nat_lt, true≢false, arith}
 use Rattle.std.proofs.lemmas.Bool.Decides.{nat_tests}
 use Rattle.std.proofs.lemmas.List.{append_assoc, append-nil, length-map, length-set}
@@ -42,7 +42,7 @@ is_in_slice [] i x e = absurd (none_is_not e)
 is_in_slice (y ∷ ys) zero x e = inl (grind (arith, e))
 is_in_slice (y ∷ ys) (suc i) x e = inr (is_in_slice ys i x e)
 
--- an element stands at one place
+-- an element occurs at only one position
 one_place : {A : Type 0} (xs : List A) → IsApart xs → (i j : ℕ) (x : A) → slice_get xs i ≡ Some x → slice_get xs j ≡ Some x → i ≡ j
 one_place [] a i j x p q = absurd (grind (arith, p))
 one_place (y ∷ ys) a zero zero x p q = refl
@@ -54,7 +54,7 @@ one_place (y ∷ ys) a (suc i) zero x p q =
     absurd (a.0 (subst (λ z. IsIn z ys) (sym same) (is_in_slice ys i x p)))
 one_place (y ∷ ys) a (suc i) (suc j) x p q = ap suc (one_place ys a.1 i j x p q)
 
--- the place of the first that passes
+-- the position of the first element that passes
 placed : {A : Type 0} (p : A → Bool) (xs : List A) (id : ℕ) → position p xs ≡ Some id → (position_or_len p xs ≡ id) × (position_or_len p xs < length xs)
 placed p xs id e = by (nat_lt (position_or_len p xs) (length xs)) refl e
   where
@@ -77,7 +77,7 @@ or_none : {A : Type 0} (o : Option A) → or_else o None ≡ o
 or_none None = refl
 or_none (Some x) = refl
 
--- ---- what the places hold
+-- ---- what the stored terms are
 
 module _ (rows : List Row) where
   record Stored (before : List Item) (row : Row) (o : Option Term) : Type 0 where
@@ -125,7 +125,7 @@ module _ (rows : List Row) where
   not_there None e = refl
   not_there (Some x) e = absurd (true≢false e)
 
-  -- what a definition that is accepted tells
+  -- the facts about a definition that is accepted
   pub record Accepted (taken : Bool) (row : Row) (body : Expr) (t : Term) : Type 0 where
     pub free : taken ≡ false
     pub term : term_of (row_names rows) body ≡ Ok t
@@ -152,7 +152,7 @@ module _ (rows : List Row) where
   pub name_at : (n : ℕ) (row : Row) → slice_get rows n ≡ Some row → slice_get (row_names rows) n ≡ Some row.name
   name_at n row e = slice_get-map (λ (r : Row). r.name) rows n ∙ rw e refl
 
-  -- the row at the place of a name has that name
+  -- the row at the position of a name has that name
   at_place : (name : List ℕ) (id : ℕ) (row : Row) → place (row_names rows) name ≡ Some id → slice_get rows id ≡ Some row → row.name ≡ name
   at_place name id row p q =
       let found = placed (pointwise nat_eq name) (row_names rows) id p in
@@ -162,7 +162,7 @@ module _ (rows : List Row) where
       sym ((bytes_decides name row.name).0 (ap (pointwise nat_eq name) (sym here) ∙ passes))
 
   module _ (apart : IsApart (row_names rows)) where
-    -- the places once a definition is put
+    -- the stored terms after a definition
     defined_holds : (before : List Item) (k : Kind) (name : List ℕ) (body : Expr) (bodies : List (Option Term)) (id : ℕ) (row : Row) (t : Term) →
         Holds before bodies → slice_get rows id ≡ Some row → row.name ≡ name → is_some (definition before name) ≡ false → term_of (row_names rows) body ≡ Ok t →
         Holds (before ++ item.Def k name body ∷ []) (slice_set bodies id (Some t))

@@ -1,4 +1,4 @@
--- The design that is bound to a file belongs to the table.
+-- The design that a file is bound to is a design of the table.
 use Rattle.std.proofs.Common.{◌≡◌, ℕ, zero, suc, ◌<◌, Bool, true, false, cond, if◌then◌else◌, List, [], ◌∷◌, ◌++◌, map, filter, length, slice_get, is_some, Option, Some, None, Result, Ok, Err, refl, sym, subst, nat_eq, nat_lt, arith}
 use Rattle.std.proofs.lemmas.Bool.Decides.{nat_tests}
 use Rattle.std.proofs.lemmas.List.{length-map}
@@ -59,7 +59,7 @@ ok_at {A} {B} f (x ∷ xs) ys e = by (λ zs. ok_at f xs zs) (f x) (all_ok (map f
         subst (λ w. (length w ≡ length (x ∷ xs)) × ((k : ℕ) (v : A) → slice_get (x ∷ xs) k ≡ Some v → (y : B) × (slice_get w k ≡ Some y) × (f v ≡ Ok y))) same
         (omega (arith, rest.0), at_each z zs p rest.1)
 
--- the first place of a name that stands once is its place
+-- if names occur only once, the first position of a name is its position
 first_place : (all : List (List ℕ)) → IsApart all → (n : ℕ) (name : List ℕ) → slice_get all n ≡ Some name → position_or_len (pointwise nat_eq name) all ≡ n
 first_place [] a n name e = absurd (grind (arith, e))
 first_place (x ∷ xs) a zero name e =
@@ -76,14 +76,14 @@ place_at all a n name e =
     let inside : nat_lt n (length all) ≡ true = grind (arith, nat_tests, slice_get_within all n name e) in
     rw (first_place all a n name e, inside) refl
 
--- ---- what no fault tells
+-- ---- consequences of having no fault
 
 or_none : {A : Type 0} (o p : Option A) → or_else o p ≡ None → (o ≡ None) × (p ≡ None)
 or_none None p e = (refl, e)
 or_none (Some x) p e = absurd (grind (arith, e))
 
 module _ (rows : List Row) where
-  -- the definition of a name has no fault where the file has none
+  -- if the file has no fault, neither has the definition of a name
   pub record Faultless (name : List ℕ) (body : Expr) : Type 0 where
     pub before : List Item
     pub kind : Kind
@@ -116,7 +116,7 @@ module _ (rows : List Row) where
   pub row_at : IsApart (row_names rows) → (n : ℕ) (row : Row) → slice_get rows n ≡ Some row → row_named rows row.name ≡ Some row
   row_at apart n row e = rw (place_at (row_names rows) apart n row.name (name_at rows n row e)) e
 
-  -- the term of a row that is defined without a fault is of the row's class
+  -- the term of a row whose definition has no fault is of the row's class
   fits : IsApart (row_names rows) → (items : List Item) (n : ℕ) (row : Row) (t : Term) → first_fault rows [] items ≡ None → slice_get rows n ≡ Some row →
       (d : Option Expr) → definition items row.name ≡ d → row_term rows row d ≡ Ok t → has_class rows row.class t ≡ true
   fits apart items n row t h e None q p = absurd (grind (arith, p))

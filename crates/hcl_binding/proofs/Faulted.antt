@@ -1,4 +1,4 @@
--- What the fault of the definition says of the file and the table.
+-- What a fault of the definition implies about the file and the table.
 use Rattle.std.proofs.Common.{◌≡◌, ℕ, suc, Bool, true, false, not, ◌&&◌, if◌then◌else◌, List, [], ◌∷◌, ◌++◌, map, slice_get, is_some, Option, Some, None, Result, Ok, Err, option_and_then, refl, sym, ap, ◌∙◌, subst, inl, inr, arith}
 use Rattle.std.proofs.lemmas.List.{append_assoc}
 use Rattle.std.proofs.lemmas.Option.{slice_get-get_or, slice_get-map}
@@ -42,7 +42,7 @@ err_at {A} {B} f (x ∷ xs) e h = by (λ q. err_at f xs e q) (f x) (all_ok (map 
         (suc rest.0, rest.1, rest.2, rest.3)
 
 module _ (rows : List Row) where
-  -- a name whose row isn't found has no place
+  -- if no row has the name, the name has no position
   unplaced : (name : List ℕ) → row_named rows name ≡ None → place (row_names rows) name ≡ None
   unplaced name e = by (place (row_names rows) name) refl e
     where

@@ -1,4 +1,4 @@
--- Names at their positions.
+-- Names at their positions in the table, and in the index of names.
 use Rattle.std.proofs.Common.{◌≡◌, ℕ, zero, suc, ◌<◌, ◌+◌, Bool, true, false, not, ◌||◌, cond, List, [], ◌∷◌, ◌++◌, map, take, length, get_or, position, refl, sym, ap, ◌∙◌, subst, inl, inr, nat_eq, arith}
 use Rattle.std.proofs.Math.Seq.{take-suc}
 use Rattle.std.proofs.Math.Numerals.{add-one}
@@ -24,7 +24,7 @@ is_in_get [] i x h e = absurd (omega (arith, h))
 is_in_get (y ∷ ys) zero x h e = inl e
 is_in_get (y ∷ ys) (suc i) x h e = inr (is_in_get ys i x (omega (arith, h)) e)
 
--- a name stands nowhere before its place
+-- no position before a name's own has that name
 absent : (names : List (List ℕ)) (i : ℕ) (name : List ℕ) → i < length names → name ≡ get_or names i name → IsApart names →
     list_any (pointwise nat_eq name) (take i names) ≡ false
 absent [] i name h e a = absurd (omega (arith, h))
@@ -49,7 +49,7 @@ get_of_map f [] i x = refl
 get_of_map f (y ∷ ys) zero x = refl
 get_of_map f (y ∷ ys) (suc i) x = get_of_map f ys i x
 
--- the keys once the name of the next row was inserted
+-- the keys after the name of the next row was inserted
 pub one_more : {V : Type 0} (keys : List (Vec ℕ V)) (key : Vec ℕ V) (rows : List Row) (i : ℕ) (row : Row) → i < length rows → row ≡ get_or rows i row →
     key.items ≡ row.name → map bytes_of keys ≡ row_names (take i rows) → IsApart (row_names rows) →
     map bytes_of (insert_key (λ a b. pointwise nat_eq a.items b.items) keys key) ≡ row_names (take (i + 1) rows)

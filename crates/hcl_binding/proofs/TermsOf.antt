@@ -19,7 +19,7 @@ use Rattle.hcl_types.proofs.Inductions.{each_beside}
 use Rattle.hcl_types.proofs.Each.{each_joins, each_both}
 use Rattle.hcl_types.proofs.Values.{names_Num, names_Name, names_Not, names_And, names_Or, names_Cmp, names_In, names_Case, names_branch}
 
--- of a result: P of its value
+-- P holds for the value of a result, if it has one
 abbrev pub WhereOk : {A : Type 0} → (A → Type 0) → Result A BindFault → Type 0
 WhereOk P (Ok x) = P x
 WhereOk P (Err e) = Unit {0}

@@ -1,4 +1,4 @@
--- The fault of an expression: a name in it that is no row.
+-- A fault of an expression: a name in it that is no row.
 use Rattle.std.proofs.Common.{◌≡◌, ℕ, List, [], ◌∷◌, ◌++◌, map, Option, Some, None, Result, Ok, Err, refl, sym, subst, inl, inr}
 use Rattle.std.specs.List.{AllByRecursion}
 use Rattle.hcl_tree.specs.declared.tree.Expr.{Expr}
@@ -25,7 +25,7 @@ pub in_right : {A : Type 0} (x : A) (xs ys : List A) → IsIn x ys → IsIn x (x
 in_right x [] ys h = h
 in_right x (z ∷ zs) ys h = inr (in_right x zs ys h)
 
--- of a result: P of its fault
+-- P holds for the fault of a result, if it has one
 abbrev pub WhereErr : {A : Type 0} → (BindFault → Type 0) → Result A BindFault → Type 0
 WhereErr P (Ok x) = Unit {0}
 WhereErr P (Err e) = P e
@@ -35,7 +35,7 @@ then_err P f (Ok x) p h = h x
 then_err P f (Err e) p h = p
 
 module _ (rows : List (List ℕ)) where
-  -- e says that a name among these is no row
+  -- fault e is that some name among these is no row
   abbrev pub Lacks : List (List ℕ) → BindFault → Type 0
   Lacks among e = (e.why ≡ why.Unknown) × (place rows e.name ≡ None) × IsIn e.name among
 

@@ -23,7 +23,7 @@ use Rattle.hcl_types.specs.Tables.{defined, is_defined, row_names}
 abbrev pub fault : BindWhy → List ℕ → BindFault
 fault w text = record { why = w; name = text }
 
--- what a later step makes of a value, and a fault that an earlier step found
+-- a step after another: it gets the value, or passes on an earlier fault
 abbrev pub and_then : {A B : Type 0} → Result A BindFault → (A → Result B BindFault) → Result B BindFault
 and_then (Ok x) f = f x
 and_then (Err e) f = Err e
@@ -42,7 +42,7 @@ place names name = position (pointwise nat_eq name) names
 abbrev pub row_named : List Row → List ℕ → Option Row
 row_named rows name = option_and_then (slice_get rows) (place (row_names rows) name)
 
--- ---- terms: each name by its row; a name that the table hasn't is Unknown, the first in text order
+-- ---- terms: each name becomes its row; a name that isn't in the table is Unknown, the first in text order
 
 abbrev pub named : List ℕ → Option ℕ → Result Term BindFault
 named name None = Err (fault why.Unknown name)
@@ -74,7 +74,7 @@ abbrev pub is_of : Kind → Class → Bool
 is_of kind.Word class = not (is_truth class)
 is_of kind.Bool class = is_truth class
 
--- the body that an item defines a name by, and that of its first definition among items
+-- the body by which an item defines a name, and the body of its first definition among items
 abbrev pub body_in : List ℕ → Item → Option Expr
 body_in name (item.Quote text) = None
 body_in name (item.Decl kind other text) = None
@@ -88,17 +88,18 @@ abbrev pub definition : List Item → List ℕ → Option Expr
 definition [] name = None
 definition (i ∷ items) name = or_else (body_in name i) (definition items name)
 
--- a declaration of a name: it is Unknown where the table hasn't it, and a KindMismatch where its row is of the other kind
+-- a declaration of a name: it is Unknown if it isn't in the table, and a KindMismatch if its row has the other kind
 abbrev pub declared : Option Row → Kind → List ℕ → Result (Unit {0}) BindFault
 declared None kind name = Err (fault why.Unknown name)
 declared (Some row) kind name = if is_of kind row.class then Ok tt else Err (fault why.KindMismatch name)
 
--- The term of a body: a KindMismatch where the definition says the other kind than the row's, or the body is of the other kind.
+-- The term of a body: a KindMismatch if the definition's kind isn't the row's, or the body has the other kind.
 abbrev pub of_kind : List Row → Row → Kind → List ℕ → Term → Result Term BindFault
 of_kind rows row kind name t = if is_of kind row.class && has_class rows row.class t then Ok t else Err (fault why.KindMismatch name)
 
--- A definition of a name: it is Unknown where the table hasn't it; it Redefines a constant, state or hardware; it is there Twice
--- where the name was defined before; else its term, or the fault of its body: the first Unknown name in it, or KindMismatch.
+-- A definition of a name, as its term or its fault. It is Unknown if the name isn't in the table; it Redefines a
+-- constant, state or hardware; it is Twice if the name was defined before. The fault of its body is its first Unknown
+-- name, or KindMismatch.
 abbrev pub defined_as : List Row → Bool → Option Row → Kind → List ℕ → Expr → Result Term BindFault
 defined_as rows before None kind name body = Err (fault why.Unknown name)
 defined_as rows before (Some row) kind name body =
@@ -110,7 +111,7 @@ abbrev pub fault_in : {A : Type 0} → Result A BindFault → Option BindFault
 fault_in (Ok x) = None
 fault_in (Err e) = Some e
 
--- the fault of an item; before: the items in front of it
+-- the fault of an item; `before` is the items in front of it
 abbrev pub item_fault : List Row → List Item → Item → Option BindFault
 item_fault rows before (item.Quote text) = None
 item_fault rows before (item.Decl kind name text) = fault_in (declared (row_named rows name) kind name)
@@ -118,12 +119,12 @@ item_fault rows before (item.Def kind name body) = fault_in (defined_as rows (is
 
 -- ---- the file
 
--- the first fault of the items in text order; before: those in front of them
+-- the first fault of the items in text order; `before` is the items in front of them
 unfoldable pub first_fault : List Row → List Item → List Item → Option BindFault
 first_fault rows before [] = None
 first_fault rows before (i ∷ items) = or_else (item_fault rows before i) (first_fault rows (before ++ i ∷ []) items)
 
--- the term of a row that is to be defined, or that its definition is Missing
+-- the term of a row that a file has to define; without a definition it is Missing
 abbrev pub row_term : List Row → Row → Option Expr → Result Term BindFault
 row_term rows row None = Err (fault why.Missing row.name)
 row_term rows row (Some body) = term_of (row_names rows) body
@@ -132,11 +133,11 @@ abbrev pub bound_by : Option BindFault → Result (List Term) BindFault → Resu
 bound_by None terms = terms
 bound_by (Some e) terms = Err e
 
--- the first fault of an item; else the terms of the rows that are to be defined, or the first that is missing
+-- the first fault of an item; else the terms of the rows that a file has to define, or the first that is missing
 unfoldable pub bound : List Row → List Item → Result (List Term) BindFault
 bound rows items = bound_by (first_fault rows [] items) (all_ok (map (λ (row : Row). row_term rows row (definition items row.name)) (defined rows)))
 
--- an answer is that of the definition, out of memory apart
+-- an answer is that of the definition, except for out of memory
 abbrev pub IsBindAnswer : {A : Type 0} → Result A BindFault → Result A BindFault → Type 0
 IsBindAnswer (Ok x) r = r ≡ Ok x
 IsBindAnswer (Err e) r = e.why ≢ why.Memory → r ≡ Err e

@@ -1,4 +1,4 @@
--- What each fault of binding says of a file and a table, in whatever order the items are looked at.
+-- What each fault of binding implies about a file and a table, independently of the order in which items are checked.
 use Rattle.std.specs.Prelude.{◌≡◌, ◌⊎◌, ℕ, true, false, is_some, List, [], ◌∷◌, ◌++◌, None, Some, Ok}
 use Rattle.hcl_tree.specs.declared.tree.Kind.{Kind}
 use Rattle.hcl_tree.specs.declared.tree.Item.{Item}
@@ -46,25 +46,25 @@ mentions (item.Quote text) = []
 mentions (item.Decl kind name text) = name ∷ []
 mentions (item.Def kind name body) = name ∷ uses body
 
--- an item declares the name with the other kind than its row's, or defines it so, or by a body of the other kind
+-- an item declares or defines the name with another kind than its row's, or defines it by a body of the other kind
 abbrev pub Mismatches : List Row → List ℕ → Row → Item → Type 0
 Mismatches rows name row (item.Quote text) = ⊥
 Mismatches rows name row (item.Decl kind other text) = (other ≡ name) × (is_of kind row.class ≡ false)
 Mismatches rows name row (item.Def kind other body) =
     (other ≡ name) × ((is_of kind row.class ≡ false) ⊎ ((t : Term) × (term_of (row_names rows) body ≡ Ok t) × (has_class rows row.class t ≡ false)))
 
--- a fault of this sort about this name
+-- a fault of this kind about this name
 abbrev pub IsBindFault : List Row → List Item → BindWhy → List ℕ → Type 0
--- a name that some item mentions is no row
+-- some item mentions the name, and it is no row
 IsBindFault rows items why.Unknown name = (place (row_names rows) name ≡ None) × ((i : Item) × IsIn i items × IsIn name (mentions i))
 -- the name is defined, and then defined again
 IsBindFault rows items why.Twice name =
     (front : List Item) × (behind : List Item) × (kind : Kind) × (body : Expr) ×
     (items ≡ front ++ item.Def kind name body ∷ behind) × (is_some (definition front name) ≡ true)
--- a row that is to be defined isn't
+-- a row that a file has to define has no definition
 IsBindFault rows items why.Missing name = ((row : Row) × IsIn row (defined rows) × (row.name ≡ name)) × (definition items name ≡ None)
--- an item is of the other kind than the row of the name
+-- an item has another kind than the row of the name
 IsBindFault rows items why.KindMismatch name = (row : Row) × (row_named rows name ≡ Some row) × ((i : Item) × IsIn i items × Mismatches rows name row i)
--- the name is defined, and its row isn't to be
+-- the name is defined, but a file may not define its row
 IsBindFault rows items why.Redefines name = ((row : Row) × (row_named rows name ≡ Some row) × (is_defined row.role ≡ false)) × (is_some (definition items name) ≡ true)
 IsBindFault rows items why.Memory name = ⊥

@@ -1,4 +1,4 @@
-//! Binding of a file to a table.
+//! The binding of a file to a table, item by item.
 ghost use Rattle.std.specs.Prelude.{◌≡◌, ◌≢◌, ◌<◌, ◌^◌, [], IfErr, IfOk, length, slice_get};
 ghost use Rattle.hcl_binding.specs.Binding.{IsBindAnswer, bound, declared, defined_as, is_of, of_kind, place, row_named};
 ghost use Rattle.hcl_binding.specs.BindSteps as steps;
@@ -44,7 +44,7 @@ fn is_taken(bodies: &[Option<Term>], id: NameId) -> bool
     }
 }
 
-/// A declaration of a name.
+/// Checks a declaration of a name.
 fn declare(
     alloc: Global,
     rows: &[Row],
@@ -70,7 +70,7 @@ fn declare(
     }
 }
 
-/// The term by which a file defines a row. `before`: whether the row has its term.
+/// The term by which a file defines a row. `before` says whether the row has its term already.
 fn define(
     alloc: Global,
     rows: &[Row],
@@ -97,7 +97,7 @@ fn define(
     }
 }
 
-/// Puts the term of a definition in the place of its row.
+/// Stores the term of a definition in the place of its row.
 fn put_definition(
     alloc: Global,
     rows: &[Row],
@@ -123,7 +123,7 @@ fn put_definition(
     }
 }
 
-/// Puts an item: a definition into the place of its row; a declaration is looked at alone.
+/// Handles an item: it stores the term of a definition, and only checks a declaration.
 fn put_item(
     alloc: Global,
     rows: &[Row],
@@ -149,7 +149,7 @@ fn put_item(
     }
 }
 
-/// Puts the items in text order, up to the first fault.
+/// Handles the items in text order, up to the first fault.
 fn put_items(
     alloc: Global,
     rows: &[Row],
@@ -181,7 +181,7 @@ fn no_terms(alloc: Global, rows: &[Row]) -> Result<Vec<Option<Term>>, AllocError
     Ok(bodies)
 }
 
-/// Adds the term of a row that is to be defined.
+/// Appends the term of a row, if the file has to define it.
 fn put_row(
     alloc: Global,
     terms: &mut Vec<Term>,
@@ -202,7 +202,7 @@ fn put_row(
     }
 }
 
-/// The terms of the rows that are to be defined, in table order.
+/// The terms of the rows that the file has to define, in table order.
 fn put_rows(
     alloc: Global,
     rows: &[Row],
@@ -221,7 +221,7 @@ fn put_rows(
     Ok(Items::of(terms))
 }
 
-/// The terms of the rows that are to be defined, in table order, by the definitions among the items.
+/// The terms of the rows that the file has to define, in table order, from the definitions among the items.
 #[tactic(auto, unfolding(crate::specs::BindSteps::bound_in_steps))]
 fn bind_items(alloc: Global, rows: &[Row], items: &[Item]) -> Result<Items<Term>, BindFault>
     requires few { length rows.now < 2 ^ 32 }
@@ -240,10 +240,10 @@ fn bind_items(alloc: Global, rows: &[Row], items: &[Item]) -> Result<Items<Term>
     }
 }
 
-/// Binds a file to a table: the design, or the first fault in text order. Of several faults of one item the first
-/// counts of: its own name is unknown, it redefines, it is the second, a name in its body is unknown, a kind is
-/// wrong. That a definition is missing is told only where nothing else is wrong, of the first such row. The time
-/// is linear in the text.
+/// Binds a file to a table: returns the design, or the first fault in text order. If one item has several faults, the
+/// first of this list counts: its own name is unknown; it redefines; it is the second definition; a name in its body is
+/// unknown; a kind is wrong. A missing definition is reported only if nothing else is wrong, for the first row without
+/// one. The time is linear in the length of the file.
 ///
 /// Errors: each `BindWhy`, with the name that it is about.
 pub fn bind(alloc: Global, f: &File, t: &Table) -> Result<Design, BindFault>

@@ -9,7 +9,7 @@ use hcl_types::{Term, TermBranch};
 use std::alloc::Global;
 use y86_base::{Boxed, Items};
 
-/// A term in memory of its own.
+/// Moves a term into memory of its own.
 fn boxed(alloc: Global, t: Term) -> Result<Boxed<Term>, BindFault>
     ensures { IsBindAnswer result (Ok t) }
 {
@@ -19,7 +19,7 @@ fn boxed(alloc: Global, t: Term) -> Result<Boxed<Term>, BindFault>
     }
 }
 
-/// A name as the row that has it.
+/// A name as a term: the row that has it.
 fn bind_name(alloc: Global, places: &NameIndex, name: &Text) -> Result<Term, BindFault>
     ensures { IsBindAnswer result (named name.now (place places.now name.now)) }
 {
@@ -29,7 +29,7 @@ fn bind_name(alloc: Global, places: &NameIndex, name: &Text) -> Result<Term, Bin
     }
 }
 
-/// An expression as a term: each name as the row that has it.
+/// An expression as a term, in which each name is the row that has it.
 #[cycle(binding)]
 pub fn bind_term(alloc: Global, places: &NameIndex, e: &Expr) -> Result<Term, BindFault>
     ensures { IsBindAnswer result (term_of places.now e.now) }

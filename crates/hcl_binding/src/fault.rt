@@ -1,4 +1,4 @@
-//! Why a file gives no design.
+//! Why a file can't be bound to a table.
 ghost use Rattle.std.specs.Prelude.{◌≡◌, ◌≢◌, []};
 ghost use Rattle.hcl_binding.specs.Binding.{fault};
 ghost use Rattle.hcl_binding.specs.declared.fault.BindWhy.TheVariants.{Memory as OutOfMemory};
@@ -10,7 +10,7 @@ use thiserror::Error;
 /// Why a file gives no design over a table.
 #[derive(Clone, Copy, Debug, PartialEq, Eq, Error)]
 pub enum BindWhy {
-    /// A name that the table hasn't is declared, defined or used.
+    /// A name that isn't in the table is declared, defined or used.
     #[error("Unknown")]
     Unknown,
     /// A name is defined a second time.
@@ -19,10 +19,10 @@ pub enum BindWhy {
     /// A name that the file must define has no definition.
     #[error("Missing")]
     Missing,
-    /// A declaration is of the other kind than the row, or a definition or its body is.
+    /// A declaration, a definition or its body has another kind than the row.
     #[error("KindMismatch")]
     KindMismatch,
-    /// A constant, a state name or a hardware name is defined.
+    /// A definition of a constant, a field of the state or a hardware name.
     #[error("Redefines")]
     Redefines,
     /// An allocation was refused.
@@ -30,8 +30,8 @@ pub enum BindWhy {
     Memory,
 }
 
-/// The first fault of a file over a table, and the name that it is about. For `KindMismatch` it is the name that
-/// is declared or defined. When memory runs out it is empty.
+/// The first fault of a file over a table, and the name that it is about. For `KindMismatch` this is the name that
+/// is declared or defined. If memory runs out, it is empty.
 #[derive(Debug, PartialEq, Drop)]
 pub struct BindFault {
     pub why: BindWhy,
@@ -39,7 +39,7 @@ pub struct BindFault {
 }
 
 impl BindFault {
-    /// Want of memory.
+    /// Out of memory.
     pub fn memory(alloc: Global) -> BindFault
         ensures { result ≡ fault OutOfMemory [] }
     {

@@ -1,4 +1,4 @@
-//! The binding of an HCL file to a datapath's table of names: the definitions of the file as terms, or its fault.
+//! The binding of an HCL file to a datapath's table of names: it gives the definitions as terms, or the file's fault.
 #![tactic(auto)]
 
 mod binding;

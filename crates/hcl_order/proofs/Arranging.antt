@@ -1,4 +1,4 @@
--- Rows put into an order, one behind the other.
+-- The rows are put into an order, one after the other.
 use Rattle.std.proofs.Common.{◌≡◌, ◌≢◌, ◌+◌, ◌<◌, ◌⊎◌, inl, inr, ℕ, zero, suc, Bool, true, false, List, [], ◌∷◌, ◌++◌, length, set, refl, sym, ap, subst, ◌∙◌, arith, length-set, get_or-set_same, get_or-set_other}
 use Rattle.std.specs.Prelude.{not}
 use Rattle.std.proofs.lemmas.Bool.{not-true}
@@ -121,7 +121,7 @@ arranged_begin needs done ids s e = rw e (record {
   ordered = tt;
 })
 
--- where there is an order no row depends on itself
+-- if there is an order, no row depends on itself
 pub order_rests : (needs : List (List ℕ)) (known : List Bool) (ids : List ℕ) → IsTopologicalOrder needs known ids
     → ((a m : ℕ) → is_known known a ≡ true → IsIn m (needs_of needs a) → ⊥) → (n : ℕ) → Depends (needs_of needs) n n → ⊥
 order_rests needs known ids o knows n d = by (is_known known n) refl
@@ -139,7 +139,7 @@ both_ways : (needs : List (List ℕ)) (known : List Bool) (ids : List ℕ) (whol
 both_ways needs known ids whole true e a h = a.order e
 both_ways needs known ids whole false e a h = elim h [ inl t ↦ a.order t | inr r ↦ (let s = a.stuck e in absurd (r s.0 s.1)) ]
 
--- an order that was found, or that is there since no row depends on itself
+-- an order that was found, or that exists because no row depends on itself
 pub ordered_rows : (needs : List (List ℕ)) (known start : List Bool) (ids found : List ℕ) (whole : Bool) → Arranges needs start found whole → start ≡ known → ids ≡ found
     → (whole ≡ true) ⊎ ((n : ℕ) → Depends (needs_of needs) n n → ⊥) → ((a m : ℕ) → is_known known a ≡ true → IsIn m (needs_of needs a) → ⊥)
     → IsTopologicalOrder needs known ids × ((n : ℕ) → Depends (needs_of needs) n n → ⊥)

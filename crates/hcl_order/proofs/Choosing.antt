@@ -1,4 +1,4 @@
--- A way back that is chosen step by step by the marks is the first of the shortest.
+-- A way back that follows the marks step by step is the first of the shortest ways back.
 use Rattle.std.proofs.Common.{◌≡◌, ◌-◌, ◌<◌, ◌≤◌, inl, inr, ℕ, zero, suc, List, [], ◌∷◌, ◌++◌, length, slice_index, refl, sym, ap, subst, ◌∙◌, arith}
 use Rattle.std.proofs.lemmas.List.{append_assoc, append-nil}
 use Rattle.hcl_types.specs.Lists.{IsIn}
@@ -16,7 +16,7 @@ follows_length : (needs : ℕ → List ℕ) (marks : List ℕ) (target k a : ℕ
 follows_length needs marks target zero a way f = ap length f.0
 follows_length needs marks target (suc k) a way f = ap length f.2 ∙ ap suc (follows_length needs marks target k f.0 f.1 f.6)
 
--- a row from which no walk of fewer steps leads to the target, and a walk of just as many that begins at one of its needs
+-- no shorter walk leads from the row to the target, and a walk of this length begins at one of its needs
 exact : (needs : ℕ → List ℕ) (marks : List ℕ) (target level k a y : ℕ) → IsMarked needs target level marks → suc (suc k) ≤ level
     → ((i : ℕ) → Steps needs (suc i) a target → suc k ≤ i) → IsIn y (needs a) → Steps needs (suc k) y target → slice_index marks y ≡ suc (suc k)
 exact needs marks target level k a y m h none i s =
@@ -62,7 +62,7 @@ first_way needs marks row size ids c w first = subst (FirstCycle needs) (sym w.3
     none : (i : ℕ) → Steps needs (suc i) row row → w.0 ≤ i
     none i s = elim (le_or w.0 i) [ inl l ↦ l | inr l ↦ absurd (c.shortest i (omega (arith, w.2)) s) ]
 
--- as far as a way has been chosen: what goes on from the row at hand goes on from the first
+-- the way chosen so far: what continues from the current row continues from the first
 pub record IsOnWay (needs : ℕ → List ℕ) (marks : List ℕ) (row size at left : ℕ) (ids : List ℕ) : Type 0 where
   pub positive : 0 < left
   pub within : left ≤ size

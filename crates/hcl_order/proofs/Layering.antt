@@ -1,4 +1,4 @@
--- Layer by layer: the marks are those of shortest walks.
+-- The layers: the marks are the lengths of shortest walks.
 use Rattle.std.proofs.Common.{◌≡◌, ◌≢◌, ◌+◌, ◌<◌, ◌≤◌, ◌⊎◌, inl, inr, ℕ, zero, suc, Bool, true, false, List, [], ◌∷◌, length, set, replicate, slice_index, refl, sym, ap, subst, ◌∙◌, arith, length-set, get_or-set_same, get_or-set_other}
 use Rattle.std.proofs.lemmas.List.{length-replicate}
 use Rattle.hcl_types.specs.Lists.{IsIn}
@@ -92,7 +92,7 @@ next_layer needs target level rows old new added p within m l = record { sound =
           (far a k.0 t.0 q.0 k.1 t.1 q.1 (omega (arith, w.1, q.1, k.1)), omega (arith, upper needs target level rows a old new added m l, e)))
     ]
 
--- where a layer adds nothing, each row from which the target can be reached has a mark
+-- if a layer adds nothing, each row from which the target can be reached has a mark
 reached : (needs : ℕ → List ℕ) (target level : ℕ) (marks : List ℕ) → 0 < level → IsMarked needs target level marks → IsMarked needs target (level + 1) marks
     → (j a : ℕ) → Steps needs j a target → 0 < slice_index marks a
 reached needs target level marks p m next zero a s = (m.complete a 0 (omega arith) s).0
@@ -106,7 +106,7 @@ no_cycle needs row level marks p m next none j s =
     let w = is_suc (slice_index marks s.0) (reached needs row level marks p m next j s.0 s.2) in
     none w.0 (omega (arith, (m.sound s.0 w.0 w.1).0)) (before needs row level row s.0 w.0 marks m s.1 w.1)
 
--- where no need of the row has the last mark, no cycle is as short
+-- if no need of the row has the last mark, there is no cycle of that length
 pub none_shorter : (needs : ℕ → List ℕ) (row level : ℕ) (marks : List ℕ) → IsMarked needs row level marks → ((c : ℕ) → IsIn c (needs row) → slice_index marks c ≢ level)
     → ((j : ℕ) → suc j < level → Steps needs (suc j) row row → ⊥) → (j : ℕ) → suc j < level + 1 → Steps needs (suc j) row row → ⊥
 none_shorter needs row level marks m none shorter j h s =

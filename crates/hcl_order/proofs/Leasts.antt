@@ -1,4 +1,4 @@
--- The least of some rows with a mark, as far as they have been read.
+-- The least of the rows with a mark, among those read so far.
 use Rattle.std.proofs.Common.{◌≡◌, ◌≢◌, ◌+◌, ◌<◌, ◌≤◌, ◌⊎◌, inl, inr, ℕ, min, List, length, slice_index, sym, ap, subst, ◌∙◌, arith}
 use borrow.Author.Count.{below_more}
 use Rattle.hcl_types.specs.Lists.{IsIn}

@@ -1,4 +1,4 @@
--- Members of a list, by their place.
+-- Members of a list, by their positions.
 use Rattle.std.proofs.Common.{◌≡◌, ◌<◌, ◌≤◌, ◌⊎◌, inl, inr, ℕ, zero, suc, List, [], ◌∷◌, ◌++◌, length, get_or, refl, sym, ap, subst, arith}
 use Rattle.std.specs.List.{AllByRecursion}
 use Rattle.hcl_types.specs.Lists.{IsIn}

@@ -25,7 +25,7 @@ joined needs a (x ∷ xs) b ys c h i = (h.0, joined needs x xs b ys c h.1 i)
 pub both : (needs : ℕ → List ℕ) (a b c : ℕ) → Depends needs a b → Depends needs b c → Depends needs a c
 both needs a b c h i = (h.0 ++ b ∷ i.0, joined needs a h.0 b i.0 c h.1 i.1)
 
--- where each row of a kind below n leads to one of them, some row leads to itself
+-- if each row of a kind, below n, leads to another such row, then some row leads to itself
 abbrev pub Leads : (ℕ → List ℕ) → (ℕ → Bool) → ℕ → Type 0
 Leads needs kind n = (x : ℕ) → x < n → kind x ≡ true → (y : ℕ) × (y < n) × (kind y ≡ true) × Depends needs x y
 

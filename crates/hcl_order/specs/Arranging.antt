@@ -1,10 +1,10 @@
--- Rows that are put into an order one by one.
+-- The order of rows as it is built, one row at a time.
 use Rattle.std.specs.Prelude.{ℕ, ◌≡◌, ◌+◌, ◌<◌, ◌≤◌, ◌⊎◌, Bool, true, false, List, [], ◌∷◌, length}
 use Rattle.hcl_types.specs.Lists.{IsIn, IsApart}
 use Rattle.hcl_types.specs.Equations.{IsTopologicalOrder, IsOrdered, is_known, needs_of}
 use Rattle.hcl_order.specs.Dependence.{Depends}
 
--- a row is done where it is known from the start or in the list
+-- a row is done if it is known from the start or is in the list
 pub record IsArranged (needs : List (List ℕ)) (known done : List Bool) (ids : List ℕ) : Type 0 where
   pub size : length done ≡ length needs
   pub marked : (n : ℕ) → is_known done n ≡ true → (is_known known n ≡ true) ⊎ IsIn n ids
@@ -24,7 +24,7 @@ undone [] = 0
 undone (true ∷ rest) = undone rest
 undone (false ∷ rest) = undone rest + 1
 
--- a pass over so many rows: it has done some, or each of them that isn't done needs one that isn't
+-- a pass over the first `rows` rows: it has done some, or each of them that isn't done needs one that isn't
 pub record IsPassed (needs : ℕ → List ℕ) (rows : ℕ) (old new : List Bool) (added : Bool) : Type 0 where
   pub size : length new ≡ length old
   pub same : added ≡ false → new ≡ old

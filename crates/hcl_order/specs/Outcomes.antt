@@ -1,4 +1,4 @@
--- An order where no row depends on itself, and else the first cycle.
+-- An order if no row depends on itself, and otherwise the first cycle.
 use Rattle.std.specs.Prelude.{ℕ, Bool, List}
 use Rattle.hcl_types.specs.Equations.{IsTopologicalOrder, needs_of}
 use Rattle.hcl_order.specs.Dependence.{Depends, FirstCycle}

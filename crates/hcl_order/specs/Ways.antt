@@ -1,8 +1,8 @@
--- A shortest way back to a row, chosen step by step.
+-- A shortest way back to a row, chosen step by step along the marks.
 use Rattle.std.specs.Prelude.{ℕ, zero, suc, ◌≡◌, ◌≤◌, List, [], ◌∷◌, slice_index}
 use Rattle.hcl_types.specs.Lists.{IsIn}
 
--- from a row on, each next row is the least need that is one step nearer; the last of them needs the target
+-- starting at a row, each next row is the least need that is one step nearer; the last row needs the target
 abbrev pub FollowsMarks : (ℕ → List ℕ) → List ℕ → ℕ → ℕ → ℕ → List ℕ → Type 0
 FollowsMarks needs marks target zero a way = (way ≡ []) × IsIn target (needs a)
 FollowsMarks needs marks target (suc k) a way =

@@ -1,4 +1,4 @@
-//! Puts rows into an order, each behind what it needs.
+//! Puts rows into an order, each after what it needs.
 ghost use Rattle.std.specs.Prelude.{◌≡◌, ◌<◌, ◌^◌, ◌↔◌, [], Bool, List, IfOk, IsTrue, OnOk, ℕ, length, true, false, ◌⊎◌};
 ghost use Rattle.hcl_types.specs.Lists.{IsIn};
 ghost use Rattle.hcl_types.specs.Equations.{is_known, needs_of};
@@ -17,7 +17,7 @@ fn is_done(done: &[bool], row: usize) -> bool
     done[row]
 }
 
-/// Whether each of some rows is done.
+/// Whether all these rows are done.
 fn all_done(needs: &[u32], done: &[bool]) -> bool
     requires { (n : ℕ) → IsIn n needs.now → n < length done.now }
     ensures done { result ≡ true → (n : ℕ) → IsIn n needs.now → is_known done.now n ≡ true }
@@ -31,7 +31,7 @@ fn all_done(needs: &[u32], done: &[bool]) -> bool
     true
 }
 
-/// Whether a row isn't done and needs only rows that are.
+/// Whether a row isn't done, but all that it needs is.
 fn is_ready(needs: &[Items<u32>], done: &[bool], row: usize) -> bool
     requires within { IsWithin needs.now }
     requires size { length needs.now ≡ length done.now }
@@ -44,7 +44,7 @@ fn is_ready(needs: &[Items<u32>], done: &[bool], row: usize) -> bool
     !is_done(done, row) && all_done(needs_at(needs, row), done)
 }
 
-/// Appends, in table order, each row that isn't done and needs only rows that are. Whether there is any.
+/// Appends, in table order, each row that isn't done but whose needs are. Returns whether there is any.
 fn arrange_ready(
     needs: &[Items<u32>],
     done: &mut [bool],
@@ -79,7 +79,7 @@ fn whole(done: &[bool]) -> bool
     true
 }
 
-/// Puts rows into an order, each behind what it needs, as far as that goes. Whether all are done then.
+/// Puts rows into an order, each after what it needs, as far as possible. Returns whether all are then done.
 pub fn arrange_rows(
     needs: &[Items<u32>],
     done: &mut [bool],

@@ -9,7 +9,7 @@ use crate::layers::{cycle_length, least_marked, needs_at};
 use std::alloc::{AllocError, Global};
 use y86_base::Items;
 
-/// A cycle through a row: from each row on to the least that is one step nearer.
+/// A cycle through a row: after each row comes the least of its needs that is one step nearer.
 fn way_back(
     alloc: Global,
     needs: &[Items<u32>],
@@ -54,7 +54,7 @@ fn find_cycle(
     Ok(None)
 }
 
-/// A shortest cycle through the first row that depends on itself, where there is one.
+/// A shortest cycle through the first row that depends on itself, if there is one.
 pub fn first_cycle(alloc: Global, needs: &[Items<u32>]) -> Result<Option<Items<u32>>, AllocError>
     requires within { IsWithin needs.now }
     requires rows { length needs.now < 2 ^ 32 }

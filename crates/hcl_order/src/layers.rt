@@ -1,4 +1,4 @@
-//! Distances between rows, layer by layer.
+//! Distances between rows, layer by layer, to find a shortest cycle.
 ghost use Rattle.std.specs.Prelude.{◌≡◌, ◌≢◌, ◌+◌, ◌<◌, ◌≤◌, ◌^◌, ◌-◌, ◌⊎◌, ℕ, length, replicate, slice_index, slice_set, true, false};
 ghost use Rattle.hcl_types.specs.Lists.{IsIn};
 ghost use Rattle.hcl_types.specs.Equations.{needs_of};
@@ -6,7 +6,7 @@ ghost use Rattle.hcl_order.specs.Layers.{IsLayered, IsNearest, IsWithin};
 
 use y86_base::Items;
 
-/// The least of some rows that has a mark, or the number of all rows where none of them has it.
+/// The least of these rows that has the mark, or the number of all rows if none of them has it.
 pub fn least_marked(needs: &[u32], marks: &[u64], mark: u64) -> usize
     requires { (n : ℕ) → IsIn n needs.now → n < length marks.now }
     ensures has { (result ≡ length marks.now) ⊎ IsIn result needs.now }
@@ -44,7 +44,7 @@ fn is_next(needs: &[Items<u32>], marks: &[u64], row: usize, level: u64) -> bool
     marks[row] == 0 && least_marked(needs_at(needs, row), marks, level) < marks.len()
 }
 
-/// Marks each row that has no mark and needs a row of the last layer. Whether there is any.
+/// Marks each row that has no mark and needs a row of the last layer. Returns whether there is any.
 fn mark_layer(needs: &[Items<u32>], marks: &mut [u64], level: u64) -> bool
     requires within { IsWithin needs.now }
     requires size { length needs.now ≡ length marks.old }
@@ -61,7 +61,7 @@ fn mark_layer(needs: &[Items<u32>], marks: &mut [u64], level: u64) -> bool
     added
 }
 
-/// Marks one row alone.
+/// Marks this row, and removes all other marks.
 fn mark_first(marks: &mut [u64], row: usize)
     requires { row < length marks.old }
     ensures { marks.new ≡ slice_set (replicate (length marks.old) 0) row 1 }
@@ -70,8 +70,8 @@ fn mark_first(marks: &mut [u64], row: usize)
     marks[row] = 1;
 }
 
-/// How many rows a shortest cycle through a row has, 0 where there is none. The marks are then those of the
-/// distances to the row.
+/// The number of rows of a shortest cycle through a row; 0 if there is none. If there is one, the marks then give the
+/// distances to the row, with 1 for the row itself.
 pub fn cycle_length(needs: &[Items<u32>], marks: &mut [u64], row: usize) -> u64
     requires within { IsWithin needs.now }
     requires size { length needs.now ≡ length marks.old }

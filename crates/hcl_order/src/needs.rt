@@ -1,4 +1,4 @@
-//! What the rows of a design need, and which are given.
+//! What the rows of a design need, and which rows are known from the start.
 ghost use Rattle.std.specs.Prelude.{◌≡◌, ◌++◌, OnOk, IfOk, if◌then◌else◌};
 ghost use Rattle.hcl_types.specs.Tables.{inputs, is_defined, is_given, known, needs, term_at};
 ghost use Rattle.hcl_types.specs.Terms.{names};
@@ -7,7 +7,7 @@ use hcl_types::{NameId, Role, Row, Term, put_names};
 use std::alloc::{AllocError, Global};
 use y86_base::Items;
 
-/// Appends what a row needs, where it is defined by the term of a number.
+/// Appends what a row needs. If it is a defined row, `k` is the number of its term.
 fn put_needs(role: &Role, terms: &[Term], k: usize, own: &mut Vec<NameId>) -> Result<(), AllocError>
     ensures { OnOk result (own.new.items ≡ own.old.items ++ (if is_defined role.now then names (term_at terms.now k) else inputs role.now)) }
 {
@@ -62,7 +62,7 @@ pub fn needs_of_rows(
     Ok(all)
 }
 
-/// For each row whether its value is known as a cycle begins.
+/// For each row, whether its value is known when a cycle begins.
 pub fn given_rows(alloc: Global, rows: &[Row]) -> Result<Vec<bool>, AllocError>
     ensures { IfOk result (λ all. all.items ≡ known rows.now) }
 {

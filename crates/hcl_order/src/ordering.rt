@@ -1,4 +1,4 @@
-//! The order of a design: the call.
+//! The call that orders the signals of a design.
 ghost use Rattle.std.specs.Prelude.{IfOk, MatchResult, ℕ};
 ghost use Rattle.hcl_types.specs.Equations.{needs_of};
 ghost use Rattle.hcl_types.specs.Tables.{IsBound, IsOrderOf, IsSound, known, needs};
@@ -24,8 +24,8 @@ fn outcome(alloc: Global, d: &Design, t: &Table) -> Result<OrderOutcome, AllocEr
 }
 
 /// An order in which the signals of a design can be computed: all defined and hardware names of its table, each
-/// behind those that it depends on. There is one exactly where no name depends on itself, and otherwise the first
-/// cycle is told.
+/// after those that it depends on. There is one exactly if no name depends on itself; otherwise the call returns the
+/// first cycle.
 pub fn order(alloc: Global, d: &Design, t: &Table) -> Result<Order, OrderFault>
     requires sound { IsSound t.now.rows }
     requires bound { IsBound t.now.rows d.now.terms }

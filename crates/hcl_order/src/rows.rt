@@ -10,7 +10,7 @@ use crate::cycle::first_cycle;
 use std::alloc::{AllocError, Global};
 use y86_base::Items;
 
-/// What rows and their needs give.
+/// The result for rows and their needs.
 #[derive(Debug, Drop)]
 pub enum OrderOutcome {
     /// An order of the rows that are not known from the start.

@@ -1,4 +1,4 @@
--- The printed form of a file: one item a line, its expressions with parentheses just where the grammar needs them.
+-- The printed form of a file: one item a line, with parentheses in expressions only where the grammar needs them.
 use Rattle.std.specs.Prelude.{ℕ, nat_lt, if◌then◌else◌, List, [], ◌∷◌, ◌++◌, codes}
 use Rattle.y86_base.specs.Numeral.{signed_decimal}
 use Rattle.hcl_tree.specs.declared.tree.Kind.{Kind}
@@ -12,8 +12,8 @@ use Rattle.hcl_tree.specs.declared.tree.Item.{Item}
 use Rattle.hcl_tree.specs.declared.tree.Item.TheVariants.{Quote, Decl, Def}
 use Rattle.hcl_tree.specs.declared.tree.Branch.{Branch}
 
--- The text of an expression, and how tightly it holds together: 0 an `||` list, 1 an `&&` list, 2 a negation, 3 a comparison or
--- `in`, 4 a number, a name or a case list.
+-- The text of an expression, and its rank, that is, how tightly its operator binds: 0 an `||` list, 1 an `&&` list, 2 a
+-- negation, 3 a comparison or `in`, 4 a number, a name or a case list.
 pub record ShownTerm : Type 0 where
   pub rank : ℕ
   pub text : List ℕ
@@ -21,7 +21,7 @@ pub record ShownTerm : Type 0 where
 abbrev pub shown_as : ℕ → List ℕ → ShownTerm
 shown_as rank text = record { rank = rank; text = text }
 
--- a place asks for the least rank that may stand there without parentheses
+-- an expression in a place in which at least this rank needs no parentheses
 unfoldable pub within : ℕ → ShownTerm → List ℕ
 within least e = if nat_lt e.rank least then codes "(" ++ e.text ++ codes ")" else e.text
 
@@ -43,12 +43,12 @@ operator Le = codes " <= "
 operator Gt = codes " > "
 operator Ge = codes " >= "
 
--- the branches of a case list, each with a blank behind it
+-- the branches of a case list, each with a blank after it
 unfoldable pub branches : List (List ℕ) → List ℕ
 branches [] = []
 branches (b ∷ bs) = b ++ branches bs
 
--- one layer of an expression, with what is shown of each part in its place
+-- one layer of an expression, with the printed form of each part in its place
 abbrev pub layer : Expr-F ShownTerm (List ℕ) → ShownTerm
 layer (Expr-F.Num n) = shown_as 4 (signed_decimal n)
 layer (Expr-F.Name name) = shown_as 4 name

@@ -1,4 +1,4 @@
-//! HCL's tree as text: one item a line, with parentheses just where the grammar needs them.
+//! Prints the tree of an HCL file: one item a line, with parentheses only where the grammar needs them.
 #![tactic(auto)]
 
 mod printer;

@@ -1,4 +1,4 @@
-//! A file in its printed form.
+//! Prints a file in a form that reads back as the same file.
 ghost use Rattle.std.specs.Prelude.{◌≡◌, ◌++◌, OnOk, IfOk, map, ℕ, codes};
 ghost use Rattle.hcl_print.specs.Print.{branch_text, branches, further, item_text, joined, kind_word, operator, printed, shown, signal_word, within};
 
@@ -6,7 +6,7 @@ use hcl_tree::{Branch, CmpOp, Expr, File, Item, Kind};
 use std::alloc::Global;
 use y86_base::{Memory, put, put_signed};
 
-/// The text of a comparison's sign, with its blanks.
+/// The text of a comparison operator, with its blanks.
 fn operator_text(op: CmpOp) -> &'static [u8]
     ensures { result.now ≡ operator op }
 {
@@ -20,7 +20,7 @@ fn operator_text(op: CmpOp) -> &'static [u8]
     }
 }
 
-/// How tightly an expression holds together, from 0 for an `||` list to 4.
+/// How tightly the operator of an expression binds, from 0 for an `||` list to 4.
 fn rank(e: &Expr) -> u8
     ensures { result ≡ (shown e.now).rank }
 {
@@ -36,7 +36,7 @@ fn rank(e: &Expr) -> u8
     }
 }
 
-/// An expression at a place that asks for a least rank.
+/// Appends an expression in a place in which at least the rank `least` needs no parentheses.
 #[cycle(printing)]
 #[tactic(auto, unfolding(crate::specs::Print::within))]
 fn put_within(out: &mut Vec<u8>, least: u8, e: &Expr) -> Result<(), Memory>
@@ -51,7 +51,7 @@ fn put_within(out: &mut Vec<u8>, least: u8, e: &Expr) -> Result<(), Memory>
     }
 }
 
-/// The members of a list with a separator between them.
+/// Appends the members of a list with a separator between them.
 #[cycle(printing)]
 #[tactic(auto, unfolding(crate::specs::Print::joined, crate::specs::Print::further))]
 fn put_joined(out: &mut Vec<u8>, separator: &[u8], least: u8, es: &[Expr]) -> Result<(), Memory>
@@ -68,7 +68,7 @@ fn put_joined(out: &mut Vec<u8>, separator: &[u8], least: u8, es: &[Expr]) -> Re
     Ok(())
 }
 
-/// The branches of a case list.
+/// Appends the branches of a case list.
 #[cycle(printing)]
 #[tactic(auto, unfolding(crate::specs::Print::branches))]
 fn put_branches(out: &mut Vec<u8>, bs: &[Branch]) -> Result<(), Memory>
@@ -83,7 +83,7 @@ fn put_branches(out: &mut Vec<u8>, bs: &[Branch]) -> Result<(), Memory>
     Ok(())
 }
 
-/// An expression without parentheses round it.
+/// Appends an expression without parentheses around it.
 #[cycle(printing)]
 fn put_expr(out: &mut Vec<u8>, e: &Expr) -> Result<(), Memory>
     ensures { OnOk result (out.new.items ≡ out.old.items ++ (shown e.now).text) }
@@ -134,7 +134,7 @@ fn kind_text(kind: Kind) -> &'static [u8]
     }
 }
 
-/// The line of an item.
+/// Appends the line of an item.
 #[tactic(auto, unfolding(crate::specs::Print::item_text))]
 fn put_item(out: &mut Vec<u8>, item: &Item) -> Result<(), Memory>
     ensures { OnOk result (out.new.items ≡ out.old.items ++ item_text item.now) }
@@ -162,8 +162,8 @@ fn put_item(out: &mut Vec<u8>, item: &Item) -> Result<(), Memory>
     }
 }
 
-/// The printed form of a file: one item a line, parentheses just where the grammar needs them, numbers in signed
-/// decimal. What was read, printed and read again is the same file.
+/// The printed form of a file: one item a line, parentheses only where the grammar needs them, numbers in signed
+/// decimal. If a file is read, printed and read again, the result is the same file.
 #[tactic(auto, unfolding(crate::specs::Print::printed))]
 pub fn print(alloc: Global, f: &File) -> Result<Vec<u8>, Memory>
     ensures { IfOk result (λ out. out.items ≡ printed f.now.items) }

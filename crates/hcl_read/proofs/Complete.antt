@@ -1,4 +1,5 @@
--- What the grammar relates to a text, the machine reads: `IsFile free ts f` gives `run free start ts ≡ Ok (state f.items Between)`.
+-- The machine reads what the grammar relates to a text: `IsFile free ts f` gives `run free start ts ≡ Ok (state f.items
+-- Between)`.
 use Rattle.std.proofs.Common.{◌≡◌, ◌≤◌, ◌+◌, ap, sym, subst, ◌∙◌, ℕ, suc, Bool, false, cond, List, [], ◌∷◌, ◌++◌, length, Result, Ok, Err, refl, arith, zero-add, append_assoc, append-nil}
 use Rattle.std.specs.Prelude.{nat_lt}
 use Rattle.std.proofs.lemmas.Bool.Decides.{nat_tests}
@@ -29,20 +30,20 @@ use Rattle.hcl_read.specs.Depth.{depth, depth_of, level_behind}
 use Rattle.hcl_read.specs.Machine.{level, start_level, once_more_negated, negate, related, put, opened, prim, want, close, after, after_prim, want_set, after_branch, body_step, state, start, moved, place_step, on, run}
 use Rattle.hcl_read.proofs.Opened.{opened_room}
 
--- a text that goes on, and not with an operator of comparison
+-- a text that isn't empty and doesn't begin with a comparison operator
 abbrev pub Calm : List Token → Type 0
 Calm [] = ⊥
 Calm (Compare op ∷ ts) = ⊥
 Calm (KeyIn ∷ ts) = ⊥
 Calm (t ∷ ts) = Unit {0}
 
--- a text that begins, and not with `]`
+-- a text that isn't empty and doesn't begin with `]`
 abbrev pub Begins : List Token → Type 0
 Begins [] = ⊥
 Begins (CloseBracket ∷ ts) = ⊥
 Begins (t ∷ ts) = Unit {0}
 
--- the operand that a side asks for
+-- the state that waits for the operand on a side
 abbrev pub asks : OperandSide → Level → ExprState
 asks Left l = Want l
 asks (Right op left) l = WantRight op left l
@@ -85,16 +86,16 @@ module _ {free : ℕ} where
   calm_set no_member calm = calm
   calm_set (more_members h t) calm = tt
 
--- what is joined of two lists is the same when the last of the first is the first of the second
+-- moving an element from the end of one list to the front of the next doesn't change their concatenation
 pub shifted : {A : Type 0} (xs : List A) (x : A) (ys : List A) → (xs ++ x ∷ []) ++ ys ≡ xs ++ x ∷ ys
 shifted xs x ys = append_assoc xs (x ∷ []) ys
 
 module _ (free : ℕ) (items : List Item) (kind : Kind) (name : List ℕ) where
-  -- from a place in the body on
+  -- the run from a state in the body on
   abbrev Runs : ExprState → List Frame → List Token → Result ReaderState HclWhy
   Runs spot k ts = run free (state items (Body kind name spot k)) ts
 
-  -- an expression is read up to what stands behind it
+  -- an expression is read, up to what follows it
   abbrev ReadsExpr : ExprState → List Frame → List Token → Expr → List Token → Type 0
   ReadsExpr spot k ts e rest = (ands : List Expr) × (ors : List Expr) × (or_of (ors ++ and_of ands ∷ []) ≡ e) × (Runs spot k ts ≡ Runs (After ands ors) k rest)
 
@@ -106,7 +107,7 @@ module _ (free : ℕ) (items : List Item) (kind : Kind) (name : List ℕ) where
   after_alone e l k (KeyIn ∷ ts) calm = absurd calm
   after_alone e l k (t ∷ ts) calm = refl
 
-  -- a further branch begins
+  -- another branch begins
   branch_begins : (side : OperandSide) (bs : List Branch) (l : Level) (k : List Frame) (ts : List Token) → Begins ts → Runs (Cases side bs l) k ts ≡ Runs (Want start_level) (Guard side bs l ∷ k) ts
   unfolding run place_step body_step after_branch
   branch_begins side bs l k [] b = absurd b
@@ -149,7 +150,7 @@ module _ (free : ℕ) (items : List Item) (kind : Kind) (name : List ℕ) where
   asks_bracket strict Left l k = refl
   asks_bracket strict (Right op left) l k = refl
 
-  -- the place behind a comma, a `:` or `;`, a closing bracket
+  -- the state after a comma, a `:` or `;`, a closing bracket
   comma_read : (ands ors : List Expr) (left : Expr) (es : List Expr) (l : Level) (k : List Frame) (ts : List Token)
       → Runs (After ands ors) (Set left es l ∷ k) (Comma ∷ ts) ≡ Runs (Want start_level) (Set left (es ++ or_of (ors ++ and_of ands ∷ []) ∷ []) l ∷ k) ts
   unfolding run place_step body_step after close moved

@@ -1,4 +1,4 @@
--- The machine's answer is the file that the text is, or the fault that it has.
+-- The machine answers with the file that the text is, or with its fault.
 use Rattle.std.proofs.Common.{◌≡◌, ◌≤◌, ap, sym, subst, ◌∙◌, ℕ, suc, Bool, true, false, cond, List, [], ◌∷◌, ◌++◌, length, Result, Ok, Err, refl, arith, append-nil}
 use Rattle.std.specs.Prelude.{nat_lt, nat_le}
 use Rattle.std.proofs.lemmas.Bool.Decides.{nat_tests}
@@ -35,7 +35,7 @@ free_at_last n = grind (arith, nat_tests)
 length_behind : (xs ys : List Token) → length ys ≤ length (xs ++ ys)
 length_behind xs ys = grind (arith, length-append)
 
--- a text that begins with some tokens is read by reading those under the limits first
+-- the tokens in front of a text are read first, under the limits; then the rest
 run_front : (front rest : List Token) (s : ReaderState) → run (length rest) s (front ++ rest) ≡ on (run 0 s front) (λ next. run (length rest) next rest)
 unfolding run
 run_front [] rest s = refl
@@ -58,12 +58,12 @@ pub on_ok : {A B : Type 0} (r : Result A HclWhy) (f : A → Result B HclWhy) (y 
 on_ok (Ok x) f y e = (x, refl, e)
 on_ok (Err why) f y e = absurd (no_ok why y e)
 
--- a file's tokens are read, those in front under the limits
+-- the tokens of a file are read, those in front under the limits
 reads_front : (front rest : List Token) (f : File) → IsFile (length rest) (front ++ rest) f
     → (s : ReaderState) × (run 0 start front ≡ Ok s) × (run (length rest) s rest ≡ Ok (state f.items Between))
 reads_front front rest f h = on_ok (run 0 start front) (λ next. run (length rest) next rest) (state f.items Between) (sym (run_front front rest start) ∙ file_read (front ++ rest) f h)
 
--- what leads on from a state leads there from the start
+-- a text that leads from a state to a file leads there from the start
 module _ (free : ℕ) (file : List Item) where
   next_means : (s : ReaderState) (t : Token) (ts : List Token) (next : ReaderState) → step (strict_before free ts) s t ≡ Ok next → Means free file next ts → Means free file s (t ∷ ts)
   next_means s t ts next e m = sound_step free file s t ts (subst (λ r. MeansNext free file r ts) (sym e) m)
@@ -109,7 +109,7 @@ steps_stands front t s next e h =
       front_file front (t ∷ l.0) l.1 s e (next_means (suc (length l.0)) l.1 s t l.0 next (ap (λ b. step b s t) (free_at_last (length l.0)) ∙ h) (l.2 (suc (length l.0)) (le_of_lt (le_refl (suc (length l.0)))))),
     )
 
--- one more token under the limits
+-- one more token, under the limits
 pub run_all : (front rest : List Token) (s : ReaderState) → run 0 s (front ++ rest) ≡ on (run 0 s front) (λ next. run 0 next rest)
 unfolding run
 run_all [] rest s = refl
@@ -130,7 +130,7 @@ one_more_read front t s e = run_all front (t ∷ []) start ∙ ap (λ r. on r (�
     go (Ok next) = refl
     go (Err why) = refl
 
--- the names of a text and of what goes on behind it
+-- the names of a text and of what follows it
 noted_append : (names : List (List ℕ)) (xs ys : List Token) → noted_all names (xs ++ ys) ≡ noted_all (noted_all names xs) ys
 unfolding noted_all
 noted_append names [] ys = refl
@@ -231,7 +231,7 @@ outcome_answer (t ∷ ts) front s e fit =
     (subst (λ text. Answers text (outcome (noted_all [] (front ++ t ∷ [])) next ts)) (shifted front t ts)
     (outcome_answer ts (front ++ t ∷ []) next (one_more_read front t s e ∙ h) n)))
 
--- what the machine answers is true of the text
+-- the machine's answer is true of the text
 pub answers : (ts : List Token) → Answers ts (outcome [] start ts)
 unfolding run noted_all
 answers ts = outcome_answer ts [] start refl zero-le
@@ -245,7 +245,7 @@ no_fault front (t ∷ rest) why f a fault =
     (sym (run_all (front ++ t ∷ []) rest start) ∙ ap (λ ts. run 0 start ts) text ∙ file_read (front ++ t ∷ rest) f a.0) in
     fault.1 (reads_viable (front ++ t ∷ []) o.0 o.1, fits_front (front ++ t ∷ []) rest (subst (λ ts. NamesFit ts) (sym text) a.1))
 
--- and the machine answers it
+-- and the machine answers with it
 pub accepts : (ts : List Token) (f : File) → Accepts ts f → outcome [] start ts ≡ Ok f
 accepts ts f a = go (outcome [] start ts) refl (answers ts)
   where

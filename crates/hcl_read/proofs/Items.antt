@@ -47,7 +47,7 @@ skipped_ends false (byte ∷ bytes) = at (byte == 35) (is_blank byte || is_line_
     at false true c s = ends_more byte bytes _ s
     at false false c s = ends_whole (byte ∷ bytes)
 
--- a symbol that a table has, none of whose rows is empty
+-- a symbol from a table without empty rows
 abbrev Begins : List (List ℕ × Token) → Type 0
 Begins [] = Unit {0}
 Begins (row ∷ rows) = (0 < length row.0) × Begins rows
@@ -96,7 +96,7 @@ word_ends byte bytes letter =
 quoted_ends : (bytes : List ℕ) → Ends bytes (drop 1 (behind is_quoted bytes))
 quoted_ends bytes = ends_through bytes (behind is_quoted bytes) _ (ends_drop (prefix_len is_quoted bytes) bytes) (ends_drop 1 (behind is_quoted bytes))
 
--- what stands behind a token is shorter by a byte at least
+-- what follows a token is at least one byte shorter
 pub token_ends : (byte : ℕ) (bytes : List ℕ) → Ends bytes (token byte bytes).1
 unfolding token
 token_ends byte bytes = at (is_letter byte) refl (byte == 39 && is_closed bytes)

@@ -1,4 +1,4 @@
--- The laws of texts, files and faults.
+-- Proofs of the laws of texts, files and faults.
 use Rattle.std.proofs.Common.{◌≡◌, ℕ, List, [], ◌++◌, Ok, Err, inl, inr}
 use Rattle.std.specs.Prelude.{◌⊎◌}
 use Rattle.hcl_tree.specs.declared.tree.File.{File}

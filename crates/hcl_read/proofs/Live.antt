@@ -1,4 +1,4 @@
--- Every state can be led to a file: a `0`, then what closes the brackets that are open.
+-- Every state can be led to a file: by a `0`, then by what closes the open brackets.
 use Rattle.std.proofs.Common.{◌≤◌, sym, ℕ, List, [], ◌∷◌, ◌++◌, length, refl, inr, append-nil}
 use Rattle.hcl_tree.specs.declared.tree.Expr.{Expr}
 use Rattle.hcl_tree.specs.declared.tree.Expr.TheVariants as expr
@@ -22,7 +22,7 @@ use Rattle.hcl_read.specs.Machine.{negate}
 use Rattle.std.proofs.Common.{le_of_lt}
 use Rattle.hcl_read.proofs.Means.{no_operator, Behind, RelIn, PutIn, Inside, Closed, MeansSpot, Rest, Bottom, MeansPlace, Means}
 
--- some text leads there, at any place where it is free of the limits
+-- some text leads there, at every place where the limits no longer bind
 abbrev pub Lives : (List Item → ℕ → List Token → Type 0) → Type 0
 Lives P = (tail : List Token) × (file : List Item) × ((free : ℕ) → length tail ≤ free → P file free tail)
 

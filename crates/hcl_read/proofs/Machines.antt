@@ -1,4 +1,4 @@
--- The machine's words by cases.
+-- Definitions of the machine, case by case.
 use Rattle.std.proofs.Common.{◌≡◌, ℕ, suc, ◌+◌, ◌-◌, ◌<◌, refl, sym, ap, ◌∙◌, arith}
 use Rattle.hcl_tree.specs.declared.tree.Expr.{Expr}
 use Rattle.hcl_tree.specs.declared.tree.Expr.TheVariants as expr

@@ -1,4 +1,4 @@
--- What a state still asks for, in the words of the grammar: the texts that lead from it to the items of a file.
+-- What a state still requires, in terms of the grammar: the texts that lead from it to the items of a file.
 use Rattle.std.proofs.Common.{◌≡◌, ◌+◌, ℕ, suc, List, [], ◌∷◌, ◌++◌}
 use Rattle.hcl_tree.specs.declared.tree.Kind.{Kind}
 use Rattle.hcl_tree.specs.declared.tree.CmpOp.{CmpOp}
@@ -35,12 +35,12 @@ rel_of h no_operator = alone h
 rel_of h (operator r) = compared h r
 rel_of h (members room e t) = member h room e t
 
--- what a text has to be behind an expression
+-- what is required of the text after an expression
 abbrev pub Behind : Type 1
 Behind = Expr → List Token → Type 0
 
 module _ (free : ℕ) where
-  -- behind an operand of `&&` on a level, where `behind` is asked behind the level
+  -- after an operand of `&&` on a level; `behind` is required after the level
   abbrev pub AfterIn : ℕ → Behind → List Expr → List Expr → List Token → Type 0
   AfterIn d behind ands ors ts =
       (es : List Expr) × (os : List Expr) × (mid : List Token) × (rest : List Token) × AndTail free d ts es mid × OrTail free d mid os rest
@@ -49,12 +49,12 @@ module _ (free : ℕ) where
   abbrev pub RelIn : ℕ → Behind → Level → Behind
   RelIn d behind l e ts = AfterIn d behind (l.ands ++ negate l.nots e ∷ []) l.ors ts
 
-  -- behind an operand of a comparison
+  -- after an operand of a comparison
   abbrev pub PutIn : ℕ → Behind → OperandSide → Level → Behind
   PutIn d behind Left l e ts = (x : Expr) × (rest : List Token) × RelTail free (l.nots + d) e ts x rest × RelIn d behind l x rest
   PutIn d behind (Right op left) l e ts = RelIn d behind l (expr.Cmp op left e) ts
 
-  -- behind an expression in a bracket
+  -- after an expression in a bracket
   abbrev pub Inside : Frame → ℕ → Behind → Behind
   Inside (Paren side l) d behind e ts = (rest : List Token) × (ts ≡ CloseParen ∷ rest) × PutIn d behind side l e rest
   Inside (Set left es l) d behind e ts = (more : List Expr) × (rest : List Token) × SetTail free (suc (l.nots + d)) ts more (CloseBrace ∷ rest) × RelIn d behind l (expr.In left ((es ++ e ∷ []) ++ more)) rest
@@ -65,12 +65,12 @@ module _ (free : ℕ) where
       (end : List Token) × (more : List Branch) × (rest : List Token) × (ts ≡ Semicolon ∷ end)
       × CaseTail free (suc (l.nots + d)) end more (CloseBracket ∷ rest) × PutIn d behind side l (expr.Case ((bs ++ branch guard e ∷ []) ++ more)) rest
 
-  -- behind an expression inside open brackets
+  -- after an expression inside open brackets
   unfoldable pub Closed : Behind → List Frame → Behind
   Closed bottom [] = bottom
   Closed bottom (f ∷ k) = Inside f (depth_of k) (Closed bottom k)
 
-  -- what a place in a body asks for
+  -- what a state in a body requires
   unfoldable pub MeansSpot : Behind → ExprState → List Frame → List Token → Type 0
   MeansSpot bottom (Want l) k ts = (e : Expr) × (rest : List Token) × IsNot free (l.nots + depth_of k) ts e rest × RelIn (depth_of k) (Closed bottom k) l e rest
   MeansSpot bottom (WantRight op left l) k ts = (e : Expr) × (rest : List Token) × IsPrim free (l.nots + depth_of k) ts e rest × RelIn (depth_of k) (Closed bottom k) l (expr.Cmp op left e) rest
@@ -82,11 +82,11 @@ module _ (free : ℕ) where
   MeansSpot bottom (Cases side bs l) k ts =
       (more : List Branch) × (rest : List Token) × CaseTail free (suc (l.nots + depth_of k)) ts more (CloseBracket ∷ rest) × PutIn (depth_of k) (Closed bottom k) side l (expr.Case (bs ++ more)) rest
 
-  -- the items that are read, with those of a text, are those of the file
+  -- the items read so far, followed by those of a text, are those of the file
   abbrev pub Rest : List Item → List Item → List Token → Type 0
   Rest file items ts = (is : List Item) × IsItems free ts is × (file ≡ items ++ is)
 
-  -- behind a definition's body
+  -- after a definition's body
   abbrev pub Bottom : List Item → List Item → Kind → List ℕ → Behind
   Bottom file items kind name e ts = (rest : List Token) × (ts ≡ Semicolon ∷ rest) × Rest file (items ++ item.Def kind name e ∷ []) rest
 

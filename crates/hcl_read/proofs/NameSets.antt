@@ -1,4 +1,4 @@
--- The names that were met, as the keys of a set.
+-- The different names of a text, as the keys of a set.
 use Rattle.std.proofs.Common.{◌≡◌, ap, ℕ, List, [], ◌∷◌, ◌++◌, map, refl, ◌∙◌, false}
 use Rattle.std.specs.Prelude.{Vec, nat_eq, ◌||◌}
 use Rattle.std.specs.List.{list_any}
@@ -13,7 +13,7 @@ module _ {A : Type 0} where
   abbrev pub texts : List (Vec ℕ A) → List (List ℕ)
   texts keys = map (λ key. key.items) keys
 
-  -- a name is among the keys as it is among their texts
+  -- a name is among the keys if it is among their texts, and conversely
   pub among : (keys : List (Vec ℕ A)) (name : List ℕ) → list_any (λ key. pointwise nat_eq name key.items) keys ≡ list_any (pointwise nat_eq name) (texts keys)
   among [] name = refl
   among (key ∷ keys) name = ap (λ rest. pointwise nat_eq name key.items || rest) (among keys name)
@@ -25,7 +25,7 @@ module _ {A : Type 0} where
       let absent : list_any (λ key. pointwise nat_eq name.items key.items) keys ≡ false = among keys name.items ∙ e in
       rw absent (map-append (λ (key : Vec ℕ A). key.items) keys (name ∷ []))
 
--- other tokens are no names
+-- other tokens add no name
 pub unnamed : (names : List (List ℕ)) (token : Token) → ((name : List ℕ) → token ≡ Ident name → ⊥) → noted names token ≡ names
 unfolding noted
 unnamed names (Ident name) other = absurd (other name refl)

@@ -60,7 +60,7 @@ same_err x y e = cc
 bad_is_not_wide : (t : Token) → t ≡ Bad → t ≡ Wide → ⊥
 bad_is_not_wide t e f = cc
 
--- a number is no name
+-- a number adds no name
 nameless : (x : Token) → x ≡ Wide → (names : List (List ℕ)) → noted names x ≡ names
 unfolding noted
 nameless x w names = ap (noted names) w
@@ -69,7 +69,7 @@ module _ (front : List Token) (s : ReaderState) (e : run 0 start front ≡ Ok s)
   no_step : (loose : Result ReaderState HclWhy) (why : HclWhy) → step false s t ≡ Err why → GoesOnWith front t → ⊥
   no_step loose why h st = let n = stands_steps front t s st e in no_ok why n.0 (sym h ∙ n.1)
 
-  -- the reason of a token that is refused
+  -- the reason for which a token is refused
   refused_so : (w why : HclWhy) → step true s t ≡ Err w → Told t (Err w) (step false s t) → Reason front t why → w ≡ why
   refused_so w whys.BadByte h told r = same_err w whys.BadByte (sym h ∙ ap (step true s) r ∙ place_bad true s.items s.place)
   refused_so whys.Syntax whys.Syntax h told r = refl
@@ -91,7 +91,7 @@ module _ (front : List Token) (s : ReaderState) (e : run 0 start front ≡ Ok s)
   refused_so whys.NamesOver256 why h told r = absurd told
   refused_so whys.Memory why h told r = absurd told
 
-  -- a token that the grammar and the limits on depth and numbers allow is at fault for its name alone
+  -- if the grammar and the limits on depth and numbers allow a token, only its name can be at fault
   taken_so : (next : ReaderState) (why : HclWhy) → step true s t ≡ Ok next → Told t (Ok next) (step false s t) → (IsViableWithin (front ++ t ∷ []) → ⊥) → Reason front t why
       → (whys.NamesOver256 ≡ why) × (NamesFit (front ++ t ∷ []) → ⊥)
   taken_so next why h told bad r = (so why r, λ n. bad (viable, n))
@@ -119,7 +119,7 @@ module _ (front : List Token) (s : ReaderState) (e : run 0 start front ≡ Ok s)
       over : (n : ℕ) → (n ≤ 256 → ⊥) → nat_le n 256 ≡ false
       over n h = grind (arith, nat_tests)
 
--- the machine goes through tokens that begin a file within the limits
+-- the machine reads tokens that begin a file within the limits
 outcome_front : (front rest : List Token) (names : List (List ℕ)) (s last : ReaderState) → run 0 s front ≡ Ok last → length (noted_all names front) ≤ 256
     → outcome names s (front ++ rest) ≡ outcome (noted_all names front) last rest
 unfolding run outcome noted_all
@@ -149,14 +149,14 @@ unfolding outcome
 at_token front t ts why fault s e =
     token_told front s e fault.0.1 t ts why (step true s t) refl fault.1 fault.2 (λ next. outcome (noted (noted_all [] front) t) next ts)
 
--- a fault is what the machine tells
+-- the machine reports a fault
 pub fault_told : (front rest : List Token) (why : HclWhy) → FaultAt front rest why → outcome [] start (front ++ rest) ≡ Err (rest, why)
 fault_told front [] why fault =
     let v = viable_reads front fault.0.0 in
     outcome_front front [] [] start v.0 v.1 fault.0.1 ∙ nothing (noted_all [] front) v.0
     ∙ last (ended v.0.items v.0.place) (λ f e. no_fault front [] why f (file v.0 v.1 f e) fault) (only_syntax v.0.items v.0.place) ∙ ap (λ w. Err ([], w)) (sym fault.2)
   where
-    -- the machine answers a file at the end just where the text is one
+    -- at the end the machine answers with a file exactly if the text is one
     file : (s : ReaderState) → run 0 start front ≡ Ok s → (f : File) → ended s.items s.place ≡ Ok f → Accepts (front ++ []) f
     file s e f h =
         subst (Answers (front ++ [])) (outcome_front front [] [] start s e fault.0.1 ∙ nothing (noted_all [] front) s ∙ ap at_end h) (answers (front ++ []))
@@ -168,7 +168,7 @@ fault_told front (t ∷ ts) why fault =
     let v = viable_reads front fault.0.0 in
     outcome_front front (t ∷ ts) [] start v.0 v.1 fault.0.1 ∙ at_token front t ts why fault v.0 v.1
 
--- ends of one list that are as long are the same
+-- suffixes of one list that are equally long are the same
 same_end : {A : Type 0} (us vs xs ys : List A) → us ++ xs ≡ vs ++ ys → length xs ≡ length ys → xs ≡ ys
 same_end [] [] xs ys e l = e
 same_end [] (b ∷ vs) xs ys e l = absurd (longer b vs xs ys (ap length e) l)
@@ -208,7 +208,7 @@ one_fault text a b f g =
     made : (a b : HclFault) → a.line ≡ b.line → a.col ≡ b.col → a.why ≡ b.why → a ≡ b
     made a b l c w = λ i. record { line = l i; col = c i; why = w i }
 
--- and none where it is a file
+-- and none if it is a file
 pub file_has_no_fault : (text : List ℕ) (file : File) (a : HclFault) → ReadsAs text file → IsFault text a → ⊥
 file_has_no_fault text file a r f =
     no_fault (kinds f.front) (kinds f.rest) a.why file (subst (λ ts. Accepts ts file) (ap kinds f.whole ∙ kinds_append f.front f.rest) r) f.reason

@@ -1,4 +1,4 @@
--- When a bracket or `!` opens.
+-- When a bracket or `!` opens, the machine's test of the limit agrees with the bound in the grammar.
 use Rattle.std.proofs.Common.{◌≡◌, ◌≤◌, ap, ℕ, suc, false, cond, List, ◌∷◌, length, Ok, Err, inl, inr, arith}
 use Rattle.std.specs.Prelude.{◌⊎◌, nat_lt, nat_le, ◌&&◌}
 use Rattle.std.proofs.lemmas.Bool.Decides.{nat_tests}

@@ -1,4 +1,4 @@
--- The reader's loop follows the machine.
+-- The reader's loop computes what the machine does.
 use Rattle.std.proofs.Common.{◌≡◌, ℕ, ◌-◌, ◌<◌, ◌≤◌, ap, sym, subst, ◌∙◌, refl, true, false, List, [], ◌∷◌, ◌++◌, length, take, Ok, Err, Some, inl, inr, arith, append_assoc, length-append}
 use Rattle.std.specs.Prelude.{nat_le}
 use Rattle.std.proofs.lemmas.Bool.Decides.{nat_tests}
@@ -33,7 +33,7 @@ refused names state token whys.NumberTooWide h = inr (λ ts behind. rw h refl)
 refused names state token whys.DepthOver64 h = inr (λ ts behind. rw h refl)
 refused names state token whys.NamesOver256 h = inr (λ ts behind. rw h refl)
 
--- what the loop keeps: the rest is read as the text is
+-- the loop's invariant: reading the rest gives what reading the whole text gives
 pub record Follows (text : List ℕ) (names : List (List ℕ)) (state : ReaderState) (rest : List ℕ) : Type 0 where
   pub few : length names ≤ 256
   pub ends : Ends text rest
@@ -50,7 +50,7 @@ follows_first text = record {
   same = ap (λ some. outcome [] start (kinds some)) (items_listed text);
 }
 
--- the token in front of a rest, and the rest behind it
+-- the first token of a rest, and the rest after it
 pub front_is : (rest : List ℕ) (t : Token) (behind : List ℕ) → front rest ≡ Some (t, behind) →
     (listed rest ≡ (t, rest) ∷ listed (skipped false behind)) × Ends rest (skipped false behind) × (length (skipped false behind) < length rest)
 front_is [] t behind e = let no : ⊥ = cc in absurd no
@@ -178,7 +178,7 @@ pub gives_fault : (text : List ℕ) (fault : HclFault) → IsReadFault text faul
 gives_fault text fault (inl memory) wanted accepted = memory.0
 gives_fault text fault (inr is) wanted accepted = absurd (file_has_no_fault text wanted fault accepted is)
 
--- the loop's steps, with what the calls say
+-- the loop's steps, from the contracts of its calls
 pub follows_start : (text : List ℕ) (names : List (List ℕ)) (state : ReaderState) (rest : List ℕ) → names ≡ [] → state ≡ start → rest ≡ skipped false text → Follows text names state rest
 follows_start text names state rest n s r =
     subst (λ x. Follows text x state rest) (sym n) (subst (λ x. Follows text [] x rest) (sym s) (subst (λ x. Follows text [] start x) (sym r) (follows_first text)))

@@ -1,5 +1,5 @@
--- Each step keeps what the state asks for: a text behind a token that leads from the next state to a file, with the token in front,
--- leads there from the state before.
+-- Each step keeps what the state requires: if the text after a token leads from the next state to a file, then the
+-- token and that text lead there from the state before.
 use Rattle.std.proofs.Common.{◌≡◌, ◌≤◌, ◌+◌, ap, sym, subst, ◌∙◌, ℕ, suc, Bool, true, false, cond, List, [], ◌∷◌, ◌++◌, length, Result, Ok, Err, refl, arith, zero-add, append-nil}
 use Rattle.std.specs.Prelude.{nat_lt, nat_le, ◌&&◌}
 use Rattle.std.proofs.lemmas.Bool.Decides.{nat_tests}
@@ -53,7 +53,7 @@ module _ (free : ℕ) where
         go true e m = absurd m
         go false e m = (test_room free (l.nots + depth_of k) (length ts) e, m)
 
-    -- what a bracket asks for begins with an expression
+    -- what a bracket requires begins with an expression
     start_means : (k : List Frame) (ts : List Token) → MeansSpot free bottom (Want start_level) k ts → (x : Expr) × (rest : List Token) × IsExpr free (depth_of k) ts x rest × Closed free bottom k x rest
     unfolding MeansSpot negate
     start_means k ts m =

@@ -1,4 +1,4 @@
--- The stack of open brackets, a vector with the reverse_push bracket last.
+-- The stack of open brackets, as a vector with the innermost bracket last.
 use Rattle.std.proofs.Common.{◌≡◌, ℕ, ◌+◌, ◌<◌, length, false, nat_le, arith, List, [], ◌∷◌, reverse, refl, sym, add-one}
 use Rattle.y86_base.proofs.Lists.{reverse_push}
 use Rattle.hcl_read.specs.declared.frames.Frame.{Frame}
@@ -14,7 +14,7 @@ one_deeper frame k = sym (add-one ((level_behind frame).nots + depth_of k))
 
 pub ruleset stack_rules = (reverse_push, no_depth, one_deeper)
 
--- room is left behind all brackets
+-- after all brackets there is still space
 pub not_full : (nots deep room : ℕ) (rest : List Frame) → length rest ≡ 0 → nots + deep + room ≡ 64 + depth_of (reverse rest) → 0 < room →
     false ≡ nat_le 64 (nots + deep)
 unfolding depth_of

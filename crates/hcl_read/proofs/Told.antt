@@ -1,4 +1,4 @@
--- A token that the machine refuses: what it is, and whether it would go on without the limits.
+-- What the refusal of a token implies: which token it is, and whether the machine without the limits accepts it.
 use Rattle.std.proofs.Common.{◌≡◌, ap, sym, ◌∙◌, ℕ, Bool, true, false, cond, List, [], ◌∷◌, ◌++◌, Result, Ok, Err, refl}
 use Rattle.std.specs.Prelude.{nat_le}
 use Rattle.std.proofs.lemmas.Bool.{false≢true}
@@ -29,7 +29,7 @@ use Rattle.hcl_read.specs.Grammar.{or_of, and_of}
 use Rattle.hcl_read.specs.Depth.{depth}
 use Rattle.hcl_read.specs.Machine.{start_level, once_more_negated, negate, put, refusal, opened, prim, want, close, after, after_prim, want_set, after_branch, body_step, state, moved, place_step, step}
 
--- of a token and its steps, with the limits and without
+-- how a token's step with the limits determines its step without them
 abbrev pub Told : {A : Type 0} → Token → Result A HclWhy → Result A HclWhy → Type 0
 Told t (Ok x) loose = loose ≡ Ok x
 Told t (Err whys.Syntax) loose = (t ≢ Bad) × (loose ≡ Err whys.Syntax)

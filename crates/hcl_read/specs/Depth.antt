@@ -1,10 +1,10 @@
--- How deep a place lies: how many brackets and `!` are open around it.
+-- The depth of a place: how many brackets and `!`s are open around it.
 use Rattle.std.specs.Prelude.{ℕ, suc, ◌+◌, List, [], ◌∷◌}
 use Rattle.hcl_read.specs.declared.frames.Level.{Level}
 use Rattle.hcl_read.specs.declared.frames.Frame.{Frame}
 use Rattle.hcl_read.specs.declared.frames.Frame.TheVariants.{Paren, Set, Guard, Value}
 
--- the level that goes on behind a bracket
+-- the level that continues after a bracket
 abbrev pub level_behind : Frame → Level
 level_behind (Paren side l) = l
 level_behind (Set left es l) = l

@@ -1,5 +1,5 @@
--- The grammar of HCL (CS:APP 3e, section 4.2, and the HCL guide), a relation for each nonterminal: the tokens in front, the
--- tree that is read, and the tokens behind. `{ .. }` of the grammar is a relation of its own, the tail.
+-- The grammar of HCL (CS:APP 3e, section 4.2, and the HCL guide), as a relation for each nonterminal: the tokens before
+-- it, the tree that is read, and the tokens after it. Each `{ .. }` of the grammar has a relation of its own, the tail.
 --
 --     file = { item }
 --     item = "quote" text | ("wordsig" | "intsig" | "boolsig") name text | ("word" | "int" | "bool") name "=" expr ";"
@@ -10,7 +10,7 @@
 --     prim = number | name | "(" expr ")" | "[" case { case } "]"
 --     case = expr ":" expr ";"
 --
--- The limits, on the depth of nesting and on numbers, bind each token but the last `free` ones.
+-- The limits on the depth of nesting and on numbers apply to each token except the last `free` ones.
 use Rattle.std.specs.Prelude.{ℕ, suc, ◌≤◌, ◌⊎◌, List, [], ◌∷◌, length}
 use Rattle.hcl_tree.specs.declared.tree.Kind.{Kind}
 use Rattle.hcl_tree.specs.declared.tree.CmpOp.{CmpOp}
@@ -23,7 +23,7 @@ use Rattle.hcl_tree.specs.declared.tree.File.{File}
 use Rattle.hcl_read.specs.declared.tokens.Token.{Token}
 use Rattle.hcl_read.specs.declared.tokens.Token.TheVariants.{KeyQuote, KeySig, KeyDef, KeyIn, Ident, Number, Wide, Quoted, Assign, Semicolon, OrOr, AndAnd, Bang, Compare, OpenParen, CloseParen, OpenBrace, CloseBrace, OpenBracket, CloseBracket, Comma, Colon}
 
--- a list of operands is one node; an operand alone is itself
+-- two or more operands are one node; a single operand is itself
 abbrev pub or_of : List Expr → Expr
 or_of [] = expr.Or []
 or_of (e ∷ []) = e

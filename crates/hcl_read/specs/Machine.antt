@@ -1,4 +1,4 @@
--- The machine that reads a file token by token. Whether the limits hold at a token is its first argument.
+-- The machine that reads a file token by token. Its first argument says whether the limits apply at a token.
 use Rattle.std.specs.Prelude.{ℕ, zero, suc, Bool, true, ◌&&◌, nat_le, nat_lt, if◌then◌else◌, List, [], ◌∷◌, ◌++◌, length, Result, Ok, Err}
 use Rattle.hcl_tree.specs.declared.tree.Kind.{Kind}
 use Rattle.hcl_tree.specs.declared.tree.Expr.{Expr}
@@ -37,12 +37,12 @@ start_level = level 0 [] []
 abbrev pub once_more_negated : Level → Level
 once_more_negated l = level (suc l.nots) l.ands l.ors
 
--- some `!` in front of an expression
+-- an expression with some `!` in front
 unfoldable pub negate : ℕ → Expr → Expr
 negate zero e = e
 negate (suc n) e = negate n (expr.Not e)
 
--- a comparison, or an operand that stands for one, has been read
+-- a comparison, or a single operand in its place, has been read
 unfoldable pub related : Level → Expr → ExprState
 related l e = After (l.ands ++ negate l.nots e ∷ []) l.ors
 
@@ -51,7 +51,7 @@ unfoldable pub put : OperandSide → Level → Expr → ExprState
 put Left l e = AfterPrim e l
 put (Right op left) l e = related l (expr.Cmp op left e)
 
--- a token that cannot stand here
+-- the reason for a token that cannot occur here
 unfoldable pub refusal : Token → HclWhy
 refusal Bad = whys.BadByte
 refusal _ = whys.Syntax
@@ -121,13 +121,13 @@ state items place = record { items = items; place = place }
 abbrev pub start : ReaderState
 start = state [] Between
 
--- the state behind a token of a body
+-- the state after a token of a body
 unfoldable pub moved : List Item → Kind → List ℕ → Result BodyMove HclWhy → Result ReaderState HclWhy
 moved items kind name (Ok (On spot k)) = Ok (state items (Body kind name spot k))
 moved items kind name (Ok (Ended e)) = Ok (state (items ++ item.Def kind name e ∷ []) Between)
 moved items kind name (Err why) = Err why
 
--- a token
+-- the state after a token of a file
 unfoldable pub place_step : Bool → List Item → ItemState → Token → Result ReaderState HclWhy
 place_step strict items Between KeyQuote = Ok (state items WantQuote)
 place_step strict items Between (KeySig kind) = Ok (state items (WantSignal kind))
@@ -143,7 +143,7 @@ place_step strict items place t = Err (refusal t)
 abbrev pub step : Bool → ReaderState → Token → Result ReaderState HclWhy
 step strict s t = place_step strict s.items s.place t
 
--- The state behind some tokens; the limits hold at each but the last `free` ones.
+-- The state after some tokens; the limits apply to each except the last `free` ones.
 abbrev pub on : {A B : Type 0} → Result A HclWhy → (A → Result B HclWhy) → Result B HclWhy
 on (Ok x) f = f x
 on (Err why) f = Err why
@@ -152,13 +152,13 @@ unfoldable pub run : ℕ → ReaderState → List Token → Result ReaderState H
 run free s [] = Ok s
 run free s (t ∷ ts) = on (step (nat_lt free (suc (length ts))) s t) (λ next. run free next ts)
 
--- The file that has been read at the end, or the reason.
+-- The file that has been read at the end, or the reason for its refusal.
 unfoldable pub ended : List Item → ItemState → Result File HclWhy
 ended items Between = Ok (record { items = items })
 ended items place = Err whys.Syntax
 
--- What becomes of a text from a state on, with the names that were met: its file, or the tokens from the faulty one on with the
--- reason.
+-- The outcome of reading the rest of a text from a state, with the names met so far: the file, or the tokens from the
+-- faulty one on with the reason.
 abbrev pub Outcome : Type 0
 Outcome = Result File (List Token × HclWhy)
 

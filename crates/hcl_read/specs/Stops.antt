@@ -1,4 +1,4 @@
--- Where the reader stops, in the words of its machine.
+-- Where the reader stops, in terms of its machine.
 use Rattle.std.specs.Prelude.{◌≡◌, ◌⊎◌, ℕ, true, nat_le, List, [], ◌++◌, length, Ok, Err}
 use Rattle.hcl_read.specs.declared.fault.HclWhy.{HclWhy}
 use Rattle.hcl_read.specs.declared.fault.HclWhy.TheVariants as whys
@@ -10,7 +10,7 @@ use Rattle.hcl_read.specs.Machine.{Outcome, outcome, outcome_at, start, step}
 use Rattle.hcl_read.specs.Read.{bytes_from, kinds}
 use Rattle.hcl_read.specs.Tokens.{items, tokens}
 
--- a token is taken: the next state and the next names
+-- a token is accepted: the next state and the next names
 pub record TakesToken (names : List (List ℕ)) (state : ReaderState) (token : Token) (names_next : List (List ℕ)) (next : ReaderState) : Type 0 where
   pub stepped : step true state token ≡ Ok next
   pub known : names_next ≡ noted names token
@@ -21,7 +21,7 @@ abbrev pub Refused : List (List ℕ) → ReaderState → Token → HclWhy → Ty
 Refused names state token why =
     (why ≡ whys.Memory) ⊎ ((ts : List Token) (behind : ReaderState → Outcome) → outcome_at (noted names token) ts (step true state token) behind ≡ Err (ts, why))
 
--- the reader stops at a token or at the end, behind so many bytes
+-- the reader stops at a token or at the end, after `stop.at` bytes
 pub record HaltsAt (text : List ℕ) (stop : ReadStop) : Type 0 where
   pub front : List (Token × List ℕ)
   pub rest : List (Token × List ℕ)

@@ -1,4 +1,4 @@
--- The tokens of HCL text (HCL guide): a table, each read as long as it goes, with blanks, line feeds and comments between them.
+-- The tokens of HCL text (HCL guide). Each is as long as possible; blanks, line feeds and comments may separate them.
 use Rattle.std.specs.Prelude.{ℕ, zero, suc, ◌-◌, ◌^◌, Bool, true, false, ◌&&◌, ◌||◌, ◌==◌, nat_le, if◌then◌else◌, not, List, [], ◌∷◌, length, drop, take_while, codes, map, Option, Some, None, unwrap_or}
 use Rattle.y86_base.specs.declared.number.Number.{Number as Written}
 use Rattle.y86_base.specs.Text.{begins, behind, is_blank, is_letter, is_line_feed, is_name_byte}
@@ -13,11 +13,11 @@ use Rattle.hcl_read.specs.declared.tokens.Token.TheVariants.{KeyQuote, KeySig, K
 abbrev pub is_quoted : ℕ → Bool
 is_quoted byte = not (byte == 39 || is_line_feed byte)
 
--- a byte that may stand outside comments and quoted texts, blanks and line feeds apart
+-- a byte that may occur outside comments and quoted texts, apart from blanks and line feeds
 abbrev pub is_visible : ℕ → Bool
 is_visible byte = nat_le 33 byte && nat_le byte 126
 
--- what stands behind the blanks, line feeds and comments in front; a comment goes from `#` to the end of its line
+-- what follows the blanks, line feeds and comments in front; a comment extends from `#` to the end of its line
 unfoldable pub skipped : Bool → List ℕ → List ℕ
 skipped comment [] = []
 skipped true (byte ∷ bytes) = skipped (not (is_line_feed byte)) bytes
@@ -47,11 +47,11 @@ short_symbols =
 abbrev pub word : List ℕ → Token
 word name = unwrap_or (meaning_of keywords name) (Ident name)
 
--- a byte that begins no token; what stands behind it is no more looked at
+-- a byte that begins no token; the bytes after it are not read
 abbrev pub stray : ℕ → Token × List ℕ
 stray byte = ((if is_visible byte then Odd else Bad), [])
 
--- a number lies from -2^63 to 2^63-1, and is kept as a word of 64 bits, a negative one in two's complement
+-- a number from -2^63 to 2^63-1 is a word of 64 bits, a negative one in two's complement
 abbrev pub in_range : Option ℕ → Token
 in_range (Some n) = Number n
 in_range None = Wide
@@ -69,8 +69,8 @@ symbol_or_stray byte bytes =
 abbrev pub is_closed : List ℕ → Bool
 is_closed text = begins (λ byte. byte == 39) (behind is_quoted text)
 
--- the token that begins with a byte, and what stands behind it: a word, a quoted text, a number, with an optional `-` directly
--- before its digits, or a symbol
+-- the token that begins with a byte, and what follows it: a word, a quoted text, a number, with an optional `-`
+-- directly before its digits, or a symbol
 unfoldable pub token : ℕ → List ℕ → Token × List ℕ
 token byte bytes =
     if is_letter byte then (word (take_while is_name_byte (byte ∷ bytes)), behind is_name_byte (byte ∷ bytes))
@@ -81,7 +81,7 @@ abbrev pub front : List ℕ → Option (Token × List ℕ)
 front [] = None
 front (byte ∷ bytes) = Some (token byte bytes)
 
--- the tokens of a text that has no blank, line feed or comment in front, each with the bytes from its first on; at most so many
+-- at most `most` tokens of a text without a gap in front, each with the bytes from its first on
 unfoldable pub items_in : ℕ → List ℕ → List (Token × List ℕ)
 items_in zero text = []
 items_in (suc most) [] = []

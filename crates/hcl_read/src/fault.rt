@@ -1,15 +1,15 @@
-//! Why a text of HCL is refused, and where.
+//! Why and where an HCL file is refused.
 use thiserror::Error;
 use y86_base::Memory;
 
-/// Why a text is refused. Of several reasons at one place the first of `BadByte`, `Syntax`, `NumberTooWide`,
-/// `DepthOver64`, `NamesOver256` is told.
+/// Why a text is refused. If several reasons apply at one place, the reader reports the first of `BadByte`, `Syntax`,
+/// `NumberTooWide`, `DepthOver64`, `NamesOver256`.
 #[derive(Clone, Copy, Debug, PartialEq, Eq, Error)]
 pub enum HclWhy {
-    /// No file of the grammar has such a token, or the text's end, at the place.
+    /// No file of the grammar has this token, or the end of the text, at the place.
     #[error("Syntax")]
     Syntax,
-    /// A byte that is not a blank, not a line feed and not 0x21 to 0x7e stands outside comments and quoted texts.
+    /// A byte that is not a blank, not a line feed and not 0x21 to 0x7e is outside comments and quoted texts.
     #[error("BadByte")]
     BadByte,
     /// A number is below -2^63 or above 2^63-1.
@@ -18,7 +18,7 @@ pub enum HclWhy {
     /// Inside the bracket or `!` at the place, more than 64 of `(`, `[`, `{` and `!` would be open.
     #[error("DepthOver64")]
     DepthOver64,
-    /// The name at the place is the 257th different one of the text.
+    /// The name at the place is the 257th different name of the text.
     #[error("NamesOver256")]
     NamesOver256,
     /// An allocation was refused.
@@ -37,9 +37,9 @@ impl From<Memory> for HclWhy {
     }
 }
 
-/// The first place where the text is no longer the beginning of a file, as line and column from 1, a column
-/// counting bytes, and the reason. The place is the first byte of the token or the bad byte, or the end of the
-/// text. When memory runs out line and column are 0.
+/// The first place where the text is no longer the beginning of a file, and the reason. The place is the first byte of
+/// the token or the bad byte, or the end of the text. Its line and column count from 1, the column in bytes; both are 0
+/// if memory runs out.
 #[derive(Clone, Copy, Debug, PartialEq, Eq, Error)]
 #[error("{line}:{col}: {why}")]
 pub struct HclFault {

@@ -1,4 +1,4 @@
-//! What is open while an expression is read: its levels and brackets.
+//! The levels and brackets that are open while an expression is read.
 ghost use Rattle.std.specs.Prelude.{◌≡◌};
 ghost use Rattle.hcl_read.specs.Depth.{level_behind};
 
@@ -6,7 +6,7 @@ use hcl_tree::{Branch, CmpOp, Expr};
 use y86_base::{Boxed, Items};
 
 /// What has been read of an expression on one level of brackets: the operands of its `||` list so far, those of
-/// the `&&` list that is being read, and how many `!` stand in front of the next operand.
+/// the current `&&` list, and how many `!`s precede the next operand.
 #[derive(Drop)]
 pub struct Level {
     pub nots: u64,
@@ -14,14 +14,14 @@ pub struct Level {
     pub ors: Items<Expr>,
 }
 
-/// Where an operand of a comparison stands: left, or right of an operator and its left operand.
+/// The side of an operand of a comparison: left, or right of an operator and its left operand.
 #[derive(Drop)]
 pub enum OperandSide {
     Left,
     Right(CmpOp, Boxed<Expr>),
 }
 
-/// An open bracket, with what goes on behind it.
+/// An open bracket, with what was read before it.
 #[derive(Drop)]
 pub enum Frame {
     /// `(`
@@ -30,12 +30,12 @@ pub enum Frame {
     Set(Boxed<Expr>, Items<Expr>, Level),
     /// `[`, in a guard, with the branches read.
     Guard(OperandSide, Items<Branch>, Level),
-    /// `[`, in the value behind a guard.
+    /// `[`, in the value after a guard.
     Value(OperandSide, Items<Branch>, Boxed<Expr>, Level),
 }
 
 impl Frame {
-    /// How many `!` stand in front of the operand behind the bracket.
+    /// How many `!`s precede the operand that the bracket begins.
     pub fn nots(&self) -> u64
         ensures { result ≡ (level_behind self.now).nots }
     {
@@ -57,10 +57,10 @@ pub enum ExprState {
     WantRight(CmpOp, Boxed<Expr>, Level),
     /// What may follow a left operand.
     AfterPrim(Boxed<Expr>, Level),
-    /// What may follow an operand of `&&`; it is the last of the first list.
+    /// What may follow an operand of `&&`, which is the last of the first list.
     After(Items<Expr>, Items<Expr>),
     /// `{`
     WantSet(Boxed<Expr>, Level),
-    /// A further branch or `]`.
+    /// Another branch or `]`.
     Cases(OperandSide, Items<Branch>, Level),
 }

@@ -1,4 +1,4 @@
-//! The different names of a text.
+//! The different names of a text, to enforce the limit on them.
 ghost use Rattle.std.specs.Prelude.{◌≡◌, ◌≤◌, ◌∷◌, ◌++◌, [], nat_eq, nat_le, true, false, length, IfOk, OnOk};
 ghost use Rattle.std.specs.Cmp.Lexicographic.{pointwise};
 ghost use Rattle.std.specs.List.{list_any};
@@ -14,7 +14,7 @@ use y86_base::Memory;
 /// How many different names a text may have.
 pub const MOST_NAMES: usize = 256;
 
-/// The different names of a text, at most 256, seen as the list of them in the order in which they come first.
+/// The different names of a text, at most 256, seen as their list in the order of their first uses.
 #[derive(Drop)]
 pub struct Names {
     set: IndexSet<Vec<u8>>,
@@ -66,7 +66,7 @@ impl Names {
         Ok(())
     }
 
-    /// Notes a name, and answers whether the names are still at most 256; if not, they stay as they are.
+    /// Adds a name unless it is there, and returns whether the names are still at most 256; if not, they don't change.
     #[tactic(auto, unfolding(crate::specs::Fault::noted))]
     fn note_name(&mut self, alloc: Global, name: &[u8]) -> Result<bool, Memory>
         requires { length self.old ≤ 256 }
@@ -86,8 +86,8 @@ impl Names {
         Ok(true)
     }
 
-    /// Notes the name that a token is, and answers whether the names are still at most 256; if not, they stay
-    /// as they are.
+    /// Adds a token's name, if it has one, and returns whether the names are still at most 256; if not, they don't
+    /// change.
     #[tactic(auto, unfolding(crate::specs::Fault::noted))]
     pub fn note(&mut self, alloc: Global, token: &Token) -> Result<bool, Memory>
         requires { length self.old ≤ 256 }

@@ -1,4 +1,4 @@
-//! Reads a text of HCL: the call.
+//! The call that reads an HCL file, and its loop over the tokens.
 ghost use Rattle.std.specs.Prelude.{◌≡◌, ◌≤◌, ℕ, List, [], length, take, IfOk, IfErr, Ok};
 ghost use Rattle.y86_base.specs.Cursor.{column_behind, line_behind};
 ghost use Rattle.hcl_tree.specs.declared.tree.File.{File};
@@ -16,14 +16,14 @@ use hcl_tree::File;
 use std::alloc::Global;
 use y86_base::Cursor;
 
-/// Where the reader stops: behind so many bytes.
+/// Where the reader stops, after how many bytes, and why.
 #[derive(Drop)]
 pub struct ReadStop {
     pub at: usize,
     pub why: HclWhy,
 }
 
-/// Takes a token, or refuses it.
+/// Accepts a token, or refuses it.
 #[tactic(auto, using(crate::proofs::Readings::refused))]
 fn take_token(
     alloc: Global,
@@ -51,7 +51,7 @@ fn take_token(
     }
 }
 
-/// Reads the tokens of a text, one after another, and stops at the first that no file can have.
+/// Reads the tokens of a text, one after another, and stops at the first that no file can have there.
 fn read_tokens(alloc: Global, bytes: &[u8]) -> Result<File, ReadStop>
     ensures file { IfOk result (λ file. machine.outcome [] machine.start (tokens.tokens bytes.now) ≡ Ok file) }
     ensures stop { IfErr result (λ stop. Stopped bytes.now stop) }
@@ -82,7 +82,7 @@ fn read_tokens(alloc: Global, bytes: &[u8]) -> Result<File, ReadStop>
     }
 }
 
-/// The line and the column behind some bytes.
+/// The line and the column after some bytes.
 fn place(before: &[u8]) -> (u64, u64)
     ensures line { result.0 ≡ line_behind before.now }
     ensures column { result.1 ≡ column_behind before.now }
@@ -111,9 +111,8 @@ fn fault(bytes: &[u8], stop: ReadStop) -> HclFault
     HclFault { line, col, why }
 }
 
-/// Reads an HCL text (CS:APP 3e, HCL guide). The tree keeps an `||` or `&&` list as one node; parentheses make
-/// no node. Refused are more than 64 of `(`, `[`, `{` and `!` open around a token, and more than 256 different
-/// names.
+/// Reads an HCL file (CS:APP 3e, HCL guide). An `||` or `&&` list is one node of the tree; parentheses make no node.
+/// It refuses more than 64 of `(`, `[`, `{` and `!` open around a token, and more than 256 different names.
 pub fn read(alloc: Global, bytes: &[u8]) -> Result<File, HclFault>
     ensures found { IfOk result (λ file. ReadsAs bytes.now file) }
     ensures only { (file : File) → ReadsAs bytes.now file → IsReadAnswer result file }

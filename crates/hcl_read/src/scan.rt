@@ -1,4 +1,4 @@
-//! Reads the next token of a text.
+//! Reads the next token of an HCL file.
 ghost use Rattle.std.specs.Prelude.{◌≡◌, ◌≤◌, ◌<◌, ◌+◌, ◌-◌, ◌^◌, ◌∷◌, length, IfOk, MatchOption, List, ℕ, [], drop, true, None, Some, take_while, false};
 ghost use Rattle.std.specs.List.{prefix_len};
 ghost use Rattle.y86_base.specs.Keyword.{keyword_at, meaning_of};
@@ -11,7 +11,7 @@ use hcl_tree::{CmpOp, Kind, Text};
 use std::alloc::Global;
 use y86_base::{Memory, Number, decimal_at, is_blank, is_letter, split_name};
 
-/// How many bytes of a quoted text stand at the front.
+/// How many bytes of a quoted text there are at the front.
 fn quoted_length(bytes: &[u8]) -> usize
     ensures count { result ≡ prefix_len spec.is_quoted bytes.now }
     ensures within { result ≤ length bytes.now }
@@ -22,7 +22,7 @@ fn quoted_length(bytes: &[u8]) -> usize
         .count()
 }
 
-/// What stands behind the blanks, line feeds and comments in front.
+/// What follows the blanks, line feeds and comments in front.
 #[tactic(auto, unfolding(crate::specs::Tokens::skipped))]
 pub fn after_gap(bytes: &[u8]) -> &[u8]
     ensures value { result.now ≡ spec.skipped false bytes.now }
@@ -43,7 +43,7 @@ pub fn after_gap(bytes: &[u8]) -> &[u8]
     rest
 }
 
-/// The keyword that a word is.
+/// The keyword with this spelling.
 #[tactic(auto, unfolding(y86_base::specs::Keyword::meaning_of))]
 fn keyword(name: &[u8]) -> Option<Token>
     ensures { result ≡ meaning_of spec.keywords name.now }
@@ -75,7 +75,7 @@ fn keyword(name: &[u8]) -> Option<Token>
     None
 }
 
-/// The keyword or the name that a word is.
+/// The keyword with this spelling, or else a name.
 fn word(alloc: Global, name: &[u8]) -> Result<Token, Memory>
     ensures { IfOk result (λ token. token ≡ spec.word name.now) }
 {
@@ -85,7 +85,7 @@ fn word(alloc: Global, name: &[u8]) -> Result<Token, Memory>
     }
 }
 
-/// A number as a word of 64 bits, where it is in range.
+/// A number as a word of 64 bits, if it is in range.
 fn in_range(number: Number) -> Token
     ensures { result ≡ spec.in_range (word_within (2 ^ 63) (2 ^ 63 - 1) number) }
 {
@@ -95,7 +95,7 @@ fn in_range(number: Number) -> Token
     }
 }
 
-/// The symbol of two bytes in front, and what stands behind it.
+/// The symbol of two bytes in front, and what follows it.
 #[tactic(auto, unfolding(y86_base::specs::Keyword::keyword_at))]
 fn long_symbol(bytes: &[u8]) -> Option<(Token, &[u8])>
     ensures { MatchOption result (keyword_at spec.long_symbols bytes.now ≡ None)
@@ -122,7 +122,7 @@ fn long_symbol(bytes: &[u8]) -> Option<(Token, &[u8])>
     None
 }
 
-/// The symbol of one byte that a byte is.
+/// The symbol that consists of this byte.
 #[tactic(auto, unfolding(y86_base::specs::Keyword::keyword_at))]
 fn short_symbol(byte: u8) -> Option<Token>
     ensures { MatchOption result ((bytes : List ℕ) → keyword_at spec.short_symbols (byte ∷ bytes) ≡ None)
@@ -146,7 +146,7 @@ fn short_symbol(byte: u8) -> Option<Token>
     }
 }
 
-/// The symbol in front, or a byte that begins no token, and what stands behind it.
+/// The symbol in front, or a byte that begins no token, and what follows it.
 fn symbol_or_stray<'a>(text: &'a [u8], byte: u8, bytes: &'a [u8]) -> (Token, &'a [u8])
     requires { text.now ≡ byte ∷ bytes.now }
     ensures token { result.0 ≡ (spec.symbol_or_stray byte bytes.now).0 }
@@ -168,7 +168,7 @@ fn symbol_or_stray<'a>(text: &'a [u8], byte: u8, bytes: &'a [u8]) -> (Token, &'a
     }
 }
 
-/// The text up to the closing quote, and what stands behind that.
+/// The text up to the closing quote, and what follows the quote.
 fn split_quoted(bytes: &[u8]) -> Option<(&[u8], &[u8])>
     ensures { MatchOption result (spec.is_closed bytes.now ≡ false)
         (λ x. (spec.is_closed bytes.now ≡ true) × (x.0.now ≡ take_while spec.is_quoted bytes.now)
@@ -181,7 +181,7 @@ fn split_quoted(bytes: &[u8]) -> Option<(&[u8], &[u8])>
     }
 }
 
-/// The token in front, and what stands behind it; None for an empty text.
+/// The token in front, and what follows it; None for an empty text.
 #[tactic(auto, unfolding(crate::specs::Tokens::token))]
 pub fn token(alloc: Global, text: &[u8]) -> Result<Option<(Token, &[u8])>, Memory>
     ensures { IfOk result (λ r. MatchOption r (text.now ≡ []) (λ x. spec.front text.now ≡ Some (x.0, x.1.now))) }

@@ -1,4 +1,4 @@
-//! The open brackets of an expression.
+//! The open brackets of an expression, as a stack, which limits the depth of nesting.
 ghost use Rattle.std.specs.Prelude.{◌≡◌, ◌+◌, ◌∷◌, [], nat_le, OnOk, MatchOption};
 ghost use Rattle.hcl_read.specs.Depth.{depth_of};
 
@@ -58,7 +58,7 @@ impl Stack {
         self.frames.pop()
     }
 
-    /// Whether 64 of the brackets and of `!`, so many of which stand behind the innermost bracket, are open.
+    /// Whether 64 brackets and `!`s are open. `nots` counts the `!`s after the innermost bracket.
     #[tactic(auto, using(crate::proofs::Stacks::stack_rules))]
     pub fn is_full(&self, nots: u64) -> bool
         ensures { result ≡ nat_le 64 (nots + depth_of self.now) }

@@ -1,4 +1,4 @@
-//! What has been read of a file, and what comes next.
+//! The state of the reader between two tokens, and its step from one to the next.
 ghost use Rattle.std.specs.Prelude.{◌≡◌, true, Ok, Err};
 ghost use Rattle.hcl_read.specs.Machine as machine;
 ghost use Rattle.hcl_read.specs.Steps.{Steps};
@@ -13,7 +13,7 @@ use hcl_tree::{Expr, File, Item, Kind, Text};
 use std::alloc::Global;
 use y86_base::Items;
 
-/// Where a token of a body leads: on in the body, or to its end.
+/// The effect of a token of a body: the next state in the body, or its end.
 #[derive(Drop)]
 pub enum BodyMove {
     On(ExprState, Stack),
@@ -25,7 +25,7 @@ pub enum BodyMove {
 pub enum ItemState {
     /// An item or the end.
     Between,
-    /// The text behind `quote`.
+    /// The text after `quote`.
     WantQuote,
     /// The name of a declaration.
     WantSignal(Kind),
@@ -46,21 +46,21 @@ pub struct ReaderState {
     pub place: ItemState,
 }
 
-/// The state behind a place.
+/// The state with these items and this place.
 fn at(items: Items<Item>, place: ItemState) -> ReaderState
     ensures { result ≡ machine.state items place }
 {
     ReaderState { items, place }
 }
 
-/// Before the first token.
+/// The state before the first token.
 pub fn start(alloc: Global) -> ReaderState
     ensures { result ≡ machine.start }
 {
     at(Items::of(Vec::new(alloc)), ItemState::Between)
 }
 
-/// A token where an item begins.
+/// Reads a token at the beginning of an item.
 #[tactic(auto, unfolding(crate::specs::Machine::place_step))]
 fn begin_item(items: Items<Item>, token: Token) -> Result<ReaderState, HclWhy>
     ensures { Steps result (machine.place_step true items Between token) }
@@ -73,7 +73,7 @@ fn begin_item(items: Items<Item>, token: Token) -> Result<ReaderState, HclWhy>
     }
 }
 
-/// A token behind `quote`.
+/// Reads a token after `quote`.
 #[tactic(auto, unfolding(crate::specs::Machine::place_step))]
 fn quote_text(items: Items<Item>, token: Token) -> Result<ReaderState, HclWhy>
     ensures { Steps result (machine.place_step true items WantQuote token) }
@@ -84,7 +84,7 @@ fn quote_text(items: Items<Item>, token: Token) -> Result<ReaderState, HclWhy>
     }
 }
 
-/// A token where a declaration has its name.
+/// Reads a token in the place of a declaration's name.
 #[tactic(auto, unfolding(crate::specs::Machine::place_step))]
 fn signal_name(items: Items<Item>, kind: Kind, token: Token) -> Result<ReaderState, HclWhy>
     ensures { Steps result (machine.place_step true items (WantSignal kind) token) }
@@ -95,7 +95,7 @@ fn signal_name(items: Items<Item>, kind: Kind, token: Token) -> Result<ReaderSta
     }
 }
 
-/// A token where a declaration has its text.
+/// Reads a token in the place of a declaration's text.
 #[tactic(auto, unfolding(crate::specs::Machine::place_step))]
 fn signal_text(
     items: Items<Item>,
@@ -114,7 +114,7 @@ fn signal_text(
     }
 }
 
-/// A token where a definition has its name.
+/// Reads a token in the place of a definition's name.
 #[tactic(auto, unfolding(crate::specs::Machine::place_step))]
 fn defined_name(items: Items<Item>, kind: Kind, token: Token) -> Result<ReaderState, HclWhy>
     ensures { Steps result (machine.place_step true items (WantName kind) token) }
@@ -125,7 +125,7 @@ fn defined_name(items: Items<Item>, kind: Kind, token: Token) -> Result<ReaderSt
     }
 }
 
-/// A token where a definition has its `=`.
+/// Reads a token in the place of a definition's `=`.
 #[tactic(auto, unfolding(crate::specs::Machine::place_step))]
 fn assign(
     alloc: Global,
@@ -145,7 +145,7 @@ fn assign(
     }
 }
 
-/// Behind a token of a body.
+/// The state after a token of a body.
 #[tactic(auto, unfolding(crate::specs::Machine::moved))]
 fn moved(items: Items<Item>, kind: Kind, name: Text, to: BodyMove) -> Result<ReaderState, HclWhy>
     ensures { Steps result (machine.moved items kind name (Ok to)) }
@@ -159,7 +159,7 @@ fn moved(items: Items<Item>, kind: Kind, name: Text, to: BodyMove) -> Result<Rea
     }
 }
 
-/// The state behind a token.
+/// The state after a token.
 #[tactic(auto, unfolding(crate::specs::Machine::place_step, crate::specs::Machine::moved))]
 pub fn step(alloc: Global, state: ReaderState, token: Token) -> Result<ReaderState, HclWhy>
     ensures { Steps result (machine.step true state token) }

@@ -1,4 +1,4 @@
-//! What a token of an expression does to its open brackets.
+//! How a token of an expression changes its state and its open brackets.
 ghost use Rattle.std.specs.Prelude.{◌≡◌, ◌∷◌, ◌++◌, [], true, IfOk};
 ghost use Rattle.hcl_read.specs.Grammar as grammar;
 ghost use Rattle.hcl_read.specs.Machine as machine;
@@ -27,7 +27,7 @@ pub fn with_last<T: Drop>(items: Items<T>, last: T) -> Result<Items<T>, Memory>
     }
 }
 
-/// The reason at a token that cannot stand where it does.
+/// The reason for a token that cannot occur where it is.
 #[tactic(auto, unfolding(crate::specs::Machine::refusal))]
 pub fn refusal(token: Token) -> HclWhy
     ensures { result ≡ machine.refusal token }
@@ -38,7 +38,7 @@ pub fn refusal(token: Token) -> HclWhy
     }
 }
 
-/// The level of an expression that begins.
+/// The level of an expression at its beginning.
 pub fn start_level(alloc: Global) -> Level
     ensures { result ≡ machine.start_level }
 {
@@ -49,7 +49,7 @@ pub fn start_level(alloc: Global) -> Level
     }
 }
 
-/// An expression behind some `!`.
+/// An expression after some `!`s.
 fn negate(alloc: Global, nots: u64, e: Expr) -> Result<Expr, Memory>
     ensures { IfOk result (λ all. all ≡ machine.negate nots e) }
 {
@@ -86,7 +86,7 @@ fn and_of(es: Items<Expr>) -> Expr
     Expr::And(Items::of(vec))
 }
 
-/// Behind a comparison or an operand that stands for one.
+/// The state after a comparison, or after a single operand in its place.
 #[tactic(auto, unfolding(crate::specs::Machine::related))]
 fn related(alloc: Global, level: Level, e: Expr) -> Result<ExprState, Memory>
     ensures { IfOk result (λ spot. spot ≡ machine.related level e) }
@@ -96,7 +96,7 @@ fn related(alloc: Global, level: Level, e: Expr) -> Result<ExprState, Memory>
     Ok(ExprState::After(with_last(ands, operand)?, ors))
 }
 
-/// Behind an operand of a comparison.
+/// The state after an operand of a comparison.
 #[tactic(auto, unfolding(crate::specs::Machine::put))]
 fn put(alloc: Global, side: OperandSide, level: Level, e: Expr) -> Result<ExprState, Memory>
     ensures { IfOk result (λ spot. spot ≡ machine.put side level e) }
@@ -122,7 +122,7 @@ fn open_bracket(alloc: Global, stack: Stack, frame: Frame) -> Result<BodyMove, H
     Ok(BodyMove::On(ExprState::Want(start_level(alloc)), stack))
 }
 
-/// A token where an operand of a comparison begins.
+/// Reads a token at the beginning of an operand of a comparison.
 #[tactic(auto, unfolding(crate::specs::Machine::prim))]
 fn prim(
     alloc: Global,
@@ -147,7 +147,7 @@ fn prim(
     Ok(BodyMove::On(put(alloc, side, level, operand)?, stack))
 }
 
-/// A token where an operand of `&&` begins.
+/// Reads a token at the beginning of an operand of `&&`.
 #[tactic(auto, unfolding(crate::specs::Machine::want, crate::specs::Machine::opened, crate::specs::Depth::depth))]
 fn want(alloc: Global, level: Level, stack: Stack, token: Token) -> Result<BodyMove, HclWhy>
     ensures { Steps result (machine.want true level stack token) }
@@ -169,7 +169,7 @@ fn want(alloc: Global, level: Level, stack: Stack, token: Token) -> Result<BodyM
     }
 }
 
-/// A token behind an expression.
+/// Reads a token after an expression.
 #[tactic(auto, unfolding(crate::specs::Machine::close))]
 fn close(alloc: Global, e: Expr, stack: Stack, token: Token) -> Result<BodyMove, HclWhy>
     ensures { Steps result (machine.close e stack token) }
@@ -199,7 +199,7 @@ fn close(alloc: Global, e: Expr, stack: Stack, token: Token) -> Result<BodyMove,
     Ok(BodyMove::On(spot, stack))
 }
 
-/// A token behind an operand of `&&`, which is the last of the first list.
+/// Reads a token after an operand of `&&`, which is the last of the first list.
 #[tactic(auto, unfolding(crate::specs::Machine::after))]
 fn after(
     alloc: Global,
@@ -231,7 +231,7 @@ fn after(
     }
 }
 
-/// A token behind a left operand of a comparison.
+/// Reads a token after a left operand of a comparison.
 #[tactic(auto, unfolding(crate::specs::Machine::after_prim))]
 fn after_prim(
     alloc: Global,
@@ -253,7 +253,7 @@ fn after_prim(
     }
 }
 
-/// A token behind `in`.
+/// Reads a token after `in`.
 #[tactic(auto, unfolding(crate::specs::Machine::want_set))]
 fn want_set(
     alloc: Global,
@@ -273,7 +273,7 @@ fn want_set(
     }
 }
 
-/// A token behind a branch.
+/// Reads a token after a branch.
 #[tactic(auto, unfolding(crate::specs::Machine::after_branch))]
 fn after_branch(
     alloc: Global,
@@ -298,7 +298,7 @@ fn after_branch(
     }
 }
 
-/// A token of a definition's body.
+/// Reads a token of a definition's body.
 #[tactic(auto, unfolding(crate::specs::Machine::body_step))]
 pub fn body_step(
     alloc: Global,

@@ -34,8 +34,8 @@ pub enum Token {
     CloseBracket,
     Comma,
     Colon,
-    /// A byte that may stand only in comments and quoted texts.
+    /// A byte that may occur only in comments and quoted texts.
     Bad,
-    /// A byte that begins no token, as a lone `&` or a quote that is not closed on its line.
+    /// A byte that begins no token, such as a lone `&` or a quote that is not closed on its line.
     Odd,
 }

@@ -1,4 +1,4 @@
-//! The tree of an HCL file (CS:APP 3e, section 4.2 and its HCL guide).
+//! The syntax tree of an HCL file (CS:APP 3e, section 4.2 and its HCL guide), without positions.
 #![tactic(auto)]
 
 mod text;

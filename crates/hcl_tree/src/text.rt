@@ -1,4 +1,4 @@
-//! Names and quoted texts.
+//! Names and quoted texts of HCL files, as byte strings that proofs see as lists.
 ghost use Rattle.std.specs.Prelude.{◌≡◌, IfOk};
 ghost use Rattle.std.specs.Cmp.{partial_equiv_from_equiv};
 ghost use Rattle.std.specs.Cmp.Lexicographic.{nat_list_eq_equiv, pointwise};
@@ -28,7 +28,7 @@ impl Model for Text {
 impl Text {
     ghost use Rattle.std.specs.Prelude.{[]};
 
-    /// No bytes, which takes no memory.
+    /// No bytes; it allocates nothing.
     pub fn empty(alloc: Global) -> Text
         ensures { result ≡ [] }
     {
@@ -37,7 +37,7 @@ impl Text {
         }
     }
 
-    /// A copy of some bytes.
+    /// Copies bytes.
     pub fn of(alloc: Global, bytes: &[u8]) -> Result<Text, Memory>
         ensures { IfOk result (λ text. text ≡ bytes.now) }
     {
@@ -54,7 +54,7 @@ impl Text {
         self.inner.as_slice()
     }
 
-    /// The same text in memory of its own.
+    /// A copy in memory of its own.
     pub fn copy(&self, alloc: Global) -> Result<Text, Memory>
         ensures { IfOk result (λ text. text ≡ self.now) }
     {

@@ -30,7 +30,7 @@ pub enum Expr {
     Name(Text),
     /// `! operand`
     Not(Boxed<Expr>),
-    /// Two or more operands joined by `&&`, none of them such a list without parentheses of its own.
+    /// Two or more operands joined by `&&`, none of which is such a list without parentheses of its own.
     And(Items<Expr>),
     /// Two or more operands joined by `||`.
     Or(Items<Expr>),

@@ -1,4 +1,4 @@
--- What holds of each element of a list.
+-- Facts that hold for each element of a list, and for each element of joined lists.
 use Rattle.std.proofs.Common.{ℕ, List, [], ◌∷◌, ◌++◌, map, sym, subst}
 use Rattle.std.proofs.Common.{inl, inr}
 use Rattle.std.specs.List.{AllByRecursion}
@@ -17,7 +17,7 @@ pub each_more : {A : Type 0} {P Q : A → Type 0} → ((x : A) → P x → Q x) 
 each_more f [] h = tt
 each_more f (x ∷ xs) h = (f x h.0, each_more f xs h.1)
 
--- what holds of each element of the lists joined holds of each element of each list
+-- if P holds for each element of the joined lists, it holds for each element of each list
 pub each_joined : {A : Type 0} (P : ℕ → Type 0) (f : A → List ℕ) (xs : List A) → AllByRecursion P (joined (map f xs)) → AllByRecursion (λ x. AllByRecursion P (f x)) xs
 each_joined P f [] h = tt
 each_joined P f (x ∷ xs) h = (each_left P (f x) (joined (map f xs)) h, each_joined P f xs (each_right P (f x) (joined (map f xs)) h))

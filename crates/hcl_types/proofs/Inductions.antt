@@ -9,7 +9,7 @@ use Rattle.hcl_types.specs.declared.term.Term.TheFolds.{map-Term, map-TermBranch
 use Rattle.hcl_types.specs.declared.term.Term.TheViews.{roll-Term, roll-TermBranch}
 use Rattle.hcl_types.specs.declared.term.Term.TheVariants.{Num, Name, Not, And, Or, Cmp, In, Case, rolls-Num, rolls-Name, rolls-Not, rolls-And, rolls-Or, rolls-Cmp, rolls-In, rolls-Case}
 
--- what holds beside each element holds of each element
+-- if each element comes with a proof of P, then P holds for each element
 pub each_beside : {A : Type 0} {P : A → Type 0} (es : List ((x : A) × P x)) → AllByRecursion P (map (λ (e : (x : A) × P x). e.0) es)
 each_beside [] = tt
 each_beside (e ∷ es) = (e.1, each_beside es)

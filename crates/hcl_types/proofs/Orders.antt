@@ -1,4 +1,5 @@
--- Computing along an order solves the equations; induction along an order; solutions compared.
+-- Computing along an order solves the equations; induction along an order; equations that can be ordered have one
+-- solution.
 use Rattle.std.proofs.Common.{◌≡◌, ℕ, Bool, true, false, List, [], ◌∷◌, refl, sym, ◌∙◌, subst, inl, inr, arith}
 use Rattle.std.specs.Prelude.{◌⊎◌}
 use Rattle.std.specs.List.{AllByRecursion}
@@ -29,7 +30,7 @@ module _ (needs : List (List ℕ)) (known : List Bool) (P : ℕ → Type 0)
       needed m (inl k) = given m k
       needed m (inr i) = each_in P done m p i
 
-  -- what holds of known rows, and of a row where it holds of all that it needs, holds of every row
+  -- P holds for every row, if it holds for the known rows, and for a row whenever it holds for all that the row needs
   pub along : (ids : List ℕ) → IsTopologicalOrder needs known ids → (n : ℕ) → P n
   along ids o n = by (is_known known n) refl
     where
@@ -37,7 +38,7 @@ module _ (needs : List (List ℕ)) (known : List Bool) (P : ℕ → Type 0)
       by true k = given n k
       by false u = each_in P ids n (all_along [] ids tt o.unknown o.ordered) (o.whole n u)
 
--- two solutions are related at every row where the rules relate them
+-- two solutions are related at every row if the rules preserve the relation
 pub by_order : {A B : Type 0} (needs : List (List ℕ)) (known : List Bool) (ids : List ℕ) → IsTopologicalOrder needs known ids →
     (rule : ℕ → (ℕ → A) → A) (other : ℕ → (ℕ → B) → B) (f : ℕ → A) (g : ℕ → B) → IsSolution rule f → IsSolution other g → (R : ℕ → A → B → Type 0) →
     ((n : ℕ) → is_known known n ≡ true → R n (rule n f) (other n g)) →
@@ -91,7 +92,7 @@ module _ {S A : Type 0} (get : S → ℕ → A) (put : S → ℕ → A → S) (H
             neither m p q (inl e) = p (sym e)
             neither m p q (inr i) = q i
 
-    -- where the known rows have their values from the start, computing along an order solves the equations
+    -- if the known rows have their values from the start, computing along an order solves the equations
     pub solved : (s : S) (ids : List ℕ) → IsTopologicalOrder needs known ids → AllByRecursion (Has s) ids →
         ((n : ℕ) → is_known known n ≡ true → (f : ℕ → A) → get s n ≡ rule n f) → IsSolution rule (get (evaluated_along get put rule s ids))
     solved s ids o h given n = by (is_known known n) refl

@@ -1,4 +1,4 @@
--- The values of a term under two meanings, where these agree.
+-- The values of a term under two meanings that agree on its names.
 use Rattle.std.proofs.Common.{◌≡◌, ℕ, Bool, true, false, not, if◌then◌else◌, List, [], ◌∷◌, map, refl, ap, ◌∙◌, subst}
 use Rattle.std.specs.List.{AllByRecursion}
 use Rattle.hcl_tree.specs.declared.tree.CmpOp.{CmpOp}
@@ -11,7 +11,7 @@ use Rattle.hcl_types.proofs.Inductions.{induct}
 use Rattle.hcl_types.proofs.Each.{each_left, each_right, each_joined}
 use Rattle.hcl_types.proofs.Values.{value_Num, value_Name, value_Not, value_And, value_Or, value_Cmp, value_In, value_Case, value_branch, names_Name, names_Not, names_And, names_Or, names_Cmp, names_In, names_Case, names_branch}
 
--- numbers and truths of the two meanings are related, and related values hold and compare alike
+-- numbers and truths of the two meanings are related; related values are alike true or false, and compare alike
 pub record Alike {A B : Type 0} (m : Interpretation A) (k : Interpretation B) (R : A → B → Type 0) : Type 0 where
   pub nums : (n : ℕ) → R (m.num n) (k.num n)
   pub bools : (b : Bool) → R (m.bool b) (k.bool b)
@@ -92,7 +92,7 @@ module _ {A B : Type 0} (m : Interpretation A) (k : Interpretation B) (R : A →
       let both = subst (AllByRecursion (λ id. R (f id) (g id))) (names_branch b) h in
       (p (each_left (λ id. R (f id) (g id)) (names b.guard) (names b.value) both), q (each_right (λ id. R (f id) (g id)) (names b.guard) (names b.value) both)))
 
--- the value of a term depends on its names alone
+-- the value of a term depends only on the values of its names
 pub local_value : {A : Type 0} (m : Interpretation A) (f g : ℕ → A) (t : Term) → AllByRecursion (λ id. f id ≡ g id) (names t) → value m f t ≡ value m g t
 local_value m f g = related m m (λ x y. x ≡ y)
     (record { nums = λ n. refl; bools = λ b. refl; holds = λ x y e. ap m.holds e; compares = λ op x x' y y' e e'. ap (λ z. m.cmp op z x') e ∙ ap (m.cmp op y) e' })

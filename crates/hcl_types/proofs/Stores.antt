@@ -1,4 +1,4 @@
--- Two stores: a list of numbers, and a function.
+-- Two stores of values: a list of numbers, and a function.
 use Rattle.std.proofs.Common.{◌≡◌, ℕ, ◌<◌, Bool, true, false, List, length, slice_set, nat_eq, if◌then◌else◌, refl, sym, subst, arith}
 use Rattle.std.proofs.lemmas.Bool.Decides.{nat_tests}
 use Rattle.std.proofs.lemmas.List.{get_or-set_same, get_or-set_other, length-set}
@@ -12,7 +12,7 @@ list_store = record {
   keeps = λ s n m a h. subst (λ z. m < z) (sym (length-set s n a)) h;
 }
 
--- a function with another value at one place
+-- a function with another value at one argument
 abbrev pub changed : {A : Type 0} → (ℕ → A) → ℕ → A → ℕ → A
 changed f n a m = if nat_eq n m then a else f m
 

@@ -1,4 +1,4 @@
--- Kinds of HCL: where a term may stand as a word, and where as a Boolean.
+-- Kinds of HCL: where a term may be used as a word, and where as a Boolean.
 use Rattle.std.specs.Prelude.{Bool, true, false, ◌&&◌, not, List, nat_lt, slice_get, Option, Some, None}
 use Rattle.hcl_types.specs.declared.term.Term.{Term}
 use Rattle.hcl_types.specs.declared.term.TermBranch.{TermBranch}
@@ -10,7 +10,7 @@ use Rattle.hcl_types.specs.declared.table.Class.TheVariants as class
 use Rattle.hcl_types.specs.declared.table.Row.{Row}
 use Rattle.hcl_types.specs.Lists.{each}
 
--- a Boolean signal is a Boolean alone, each other name a word alone, also a constant 0 or 1
+-- a Boolean signal is only a Boolean; every other name is only a word, also a constant 0 or 1
 abbrev pub is_truth : Class → Bool
 is_truth class.Number = false
 is_truth class.Code = false
@@ -21,7 +21,7 @@ abbrev pub kinds_of_row : Option Row → Kinds
 kinds_of_row None = record { word = false; truth = false }
 kinds_of_row (Some row) = record { word = not (is_truth row.class); truth = is_truth row.class }
 
--- the numbers 0 and 1 may stand as either
+-- the numbers 0 and 1 may be either
 abbrev pub kinds_in_layer : List Row → Term-F Kinds (Kinds × Kinds) → Kinds
 kinds_in_layer rows (Term-F.Num n) = record { word = true; truth = nat_lt n 2 }
 kinds_in_layer rows (Term-F.Name id) = kinds_of_row (slice_get rows id)
@@ -41,7 +41,7 @@ kinds rows = fold-Term Kinds (Kinds × Kinds) (kinds_in_layer rows) kinds_of_bra
 abbrev pub branch_kinds : List Row → TermBranch → Kinds × Kinds
 branch_kinds rows = fold-TermBranch Kinds (Kinds × Kinds) (kinds_in_layer rows) kinds_of_branch
 
--- a term may stand as the body of a row of the class
+-- a term may be the body of a row of the class
 abbrev pub has_class : List Row → Class → Term → Bool
 has_class rows class.Truth t = (kinds rows t).truth
 has_class rows class.Number t = (kinds rows t).word

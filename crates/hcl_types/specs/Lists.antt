@@ -5,12 +5,12 @@ abbrev pub IsIn : {A : Type 0} → A → List A → Type 0
 IsIn y [] = ⊥
 IsIn y (x ∷ xs) = (y ≡ x) ⊎ IsIn y xs
 
--- no element stands twice
+-- no element occurs twice
 abbrev pub IsApart : {A : Type 0} → List A → Type 0
 IsApart [] = Unit {0}
 IsApart (x ∷ xs) = (IsIn x xs → ⊥) × IsApart xs
 
--- tests of each element and of some element
+-- each element passes the test, or some element does
 abbrev pub each : {A : Type 0} → (A → Bool) → List A → Bool
 each p [] = true
 each p (x ∷ xs) = p x && each p xs

@@ -1,10 +1,10 @@
--- What an evaluator may be asked, and what it may have computed with before.
+-- What an evaluator may be asked, and which values it may have used in advance.
 use Rattle.std.specs.Prelude.{◌≡◌, ◌<◌, ◌++◌, ℕ, List, slice_get, Some}
 use Rattle.std.specs.List.{AllByRecursion}
 use Rattle.hcl_types.specs.declared.term.Term.{Term}
 use Rattle.hcl_types.specs.Terms.{names}
 
--- def is a position of the design's terms, and each name in that term has an entry among so many
+-- def is a position among the design's terms, and each name in that term is below the number of entries
 abbrev pub HasEntries : List Term → ℕ → ℕ → Type 0
 HasEntries terms def entries = (t : Term) × (slice_get terms def ≡ Some t) × AllByRecursion (λ id. id < entries) (names t)
 

@@ -1,4 +1,4 @@
--- Tables, designs and orders: what is sound, what belongs together.
+-- Tables, designs and orders: when a table is sound, and when a design or an order belongs to it.
 use Rattle.std.specs.Prelude.{◌≡◌, ◌<◌, ◌^◌, ◌+◌, ℕ, Bool, true, false, IsTrue, if◌then◌else◌, List, [], ◌∷◌, length, map, filter, get_or, slice_get, Some}
 use Rattle.std.specs.List.{AllByRecursion}
 use Rattle.hcl_types.specs.declared.term.Term.{Term}
@@ -25,7 +25,7 @@ is_defined State = false
 is_defined (Hardware ids) = false
 is_defined Defined = true
 
--- constants and state are known as a cycle begins
+-- constants and state are known when a cycle begins
 abbrev pub is_given : Role → Bool
 is_given (Constant n) = true
 is_given State = true
@@ -52,7 +52,8 @@ row_names rows = map (λ (row : Row). row.name) rows
 abbrev pub defined : List Row → List Row
 defined rows = filter (λ (row : Row). is_defined row.role) rows
 
--- Few enough rows for a u32; names differ; hardware depends on rows of the table; the class Number is that of constants.
+-- The rows fit a u32; names differ; hardware depends only on rows of the table; exactly the constants have the class
+-- Number.
 pub record IsSound (rows : List Row) : Type 0 where
   pub few : length rows < 2 ^ 32
   pub apart : IsApart (row_names rows)
@@ -63,13 +64,14 @@ pub record IsSound (rows : List Row) : Type 0 where
 abbrev pub term_at : List Term → ℕ → Term
 term_at terms k = get_or terms k (Num 0)
 
--- One term for each defined row; each name in it is a row; it is of its row's class.
+-- One term for each defined row; each name in it is a row; it has its row's class.
 pub record IsBound (rows : List Row) (terms : List Term) : Type 0 where
   pub whole : length terms ≡ length (defined rows)
   pub inside : AllByRecursion (λ t. AllByRecursion (λ id. id < length rows) (names t)) terms
   pub classes : (k : ℕ) (row : Row) → slice_get (defined rows) k ≡ Some row → IsTrue (has_class rows row.class (term_at terms k))
 
--- What each row needs: a defined row the names in its term, hardware what it depends on. k: the defined rows before these.
+-- What each row needs: a defined row, the names in its term; hardware, its inputs. k counts the defined rows before
+-- these.
 abbrev pub needs_from : ℕ → List Row → List Term → List (List ℕ)
 needs_from k [] terms = []
 needs_from k (row ∷ rows) terms =

@@ -10,7 +10,7 @@ use Rattle.hcl_types.specs.declared.term.Term.TheOpen.{Term-F, TermBranch-F}
 use Rattle.hcl_types.specs.declared.term.Term.TheFolds.{fold-Term, fold-TermBranch}
 use Rattle.hcl_types.specs.Lists.{each, some}
 
--- what numbers, truths and comparisons mean where values are of type A
+-- the meaning of numbers, truths and comparisons if values are of type A
 pub record Interpretation (A : Type 0) : Type 0 where
   pub num : ℕ → A
   pub bool : Bool → A
@@ -55,7 +55,7 @@ compare_words op.Le x y = not (signed_below y x)
 compare_words op.Gt x y = signed_below y x
 compare_words op.Ge x y = not (signed_below x y)
 
--- words of 64 bits: a truth is 1 or 0, and what isn't 0 holds
+-- words of 64 bits: a truth is 1 or 0, and every word but 0 counts as true
 abbrev pub word_meaning : Interpretation ℕ
 word_meaning = record {
   num = λ n. n;
@@ -64,11 +64,11 @@ word_meaning = record {
   cmp = compare_words;
 }
 
--- a list of numbers as values of names, 0 past its end
+-- a list of numbers as the values of names; a name past its end has the value 0
 abbrev pub at : List ℕ → ℕ → ℕ
 at vals id = get_or vals id 0
 
--- the names in a term, in text order, as often as they stand there
+-- the names in a term, in text order, with repetitions
 abbrev pub joined : List (List ℕ) → List ℕ
 joined [] = []
 joined (xs ∷ xss) = xs ++ joined xss

@@ -1,4 +1,4 @@
-//! What evaluates the definitions of a design.
+//! The trait of evaluators of a design's definitions, and the plain evaluator.
 ghost use Rattle.std.specs.Prelude.{◌≡◌, ◌<◌, ℕ, IsTrue, List, [], length, slice_get, Some};
 ghost use Rattle.std.specs.List.{AllByRecursion};
 ghost use Rattle.hcl_types.specs.Signals.{HasEntries, Starts};
@@ -8,12 +8,12 @@ ghost use Rattle.hcl_types.specs.declared.term.Term.{Term};
 use crate::table::Design;
 use crate::value::value_of;
 
-/// An evaluator of designs: it tells the value of each definition under a list of numbers, one for each row of
+/// An evaluator of designs: it computes the value of each definition under a list of numbers, one for each row of
 /// the table.
 ///
-/// `evaluates` says which designs it evaluates. For each of them an answer is the value of the term. An evaluator may have computed with
-/// the words of the first rows before it is asked, which are a table's constants: `assumes` says with which. Values that begin
-/// otherwise it isn't asked about, so its owner asks once whether the constants fit.
+/// `evaluates` says which designs it evaluates: for these, its answer is the value of the term. An evaluator may use
+/// the words of the first rows in advance; these are a table's constants. `assumes` is the list of words that it has
+/// used. It may only be asked about values that begin with them, so its owner checks once whether the constants fit.
 pub trait SignalEval {
     ghost evaluates: { Self → List Term → Type 0 };
 
@@ -23,8 +23,7 @@ pub trait SignalEval {
     fn fits(&self, constants: &[u64]) -> bool
         ensures { IsTrue result → Starts (assumes self.now) constants.now };
 
-    /// The value of the term at `def`, counted over the defined rows from 0, where every name in it has an
-    /// entry of `vals`.
+    /// The value of the term at `def`, counted over the defined rows from 0. Every name in it needs an entry in `vals`.
     fn eval(&mut self, def: u32, vals: &[u64]) -> u64
         requires asks { (terms : List Term) × evaluates self.old terms × HasEntries terms def (length vals.now) }
         requires assumed { Starts (assumes self.old) vals.now }
@@ -34,7 +33,7 @@ pub trait SignalEval {
         ensures same { assumes self.new ≡ assumes self.old };
 }
 
-/// The evaluator that walks the terms of a design. It takes no memory, and assumes nothing.
+/// The evaluator that walks the terms of a design. It allocates nothing, and assumes nothing.
 #[derive(Drop)]
 pub struct Plain<'a> {
     design: &'a Design,

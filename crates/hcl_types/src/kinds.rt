@@ -1,4 +1,4 @@
-//! Where a term may stand, as a word or as a Boolean.
+//! Where a term may be used: as a word, as a Boolean, or as both.
 ghost use Rattle.std.specs.Prelude.{◌≡◌, ◌&&◌, Bool, map, slice_get};
 ghost use Rattle.hcl_types.specs.Lists.{each};
 ghost use Rattle.hcl_types.specs.Kinds.{branch_kinds, has_class, is_truth, kinds, kinds_of_row};
@@ -6,7 +6,7 @@ ghost use Rattle.hcl_types.specs.Kinds.{branch_kinds, has_class, is_truth, kinds
 use crate::table::{Class, Row};
 use crate::term::{NameId, Term, TermBranch};
 
-/// Whether a term may stand where a word is wanted, and whether where a Boolean is.
+/// Whether a term may be used as a word, and whether as a Boolean.
 #[derive(Clone, Copy, Debug, PartialEq, Eq)]
 pub struct Kinds {
     pub word: bool,
@@ -38,7 +38,7 @@ pub fn can_be(rows: &[Row], class: Class, t: &Term) -> bool
     }
 }
 
-/// Where a name may stand.
+/// Where a name may be used.
 fn kinds_of_name(rows: &[Row], id: NameId) -> Kinds
     ensures { result ≡ kinds_of_row (slice_get rows.now id) }
 {
@@ -57,7 +57,7 @@ fn kinds_of_name(rows: &[Row], id: NameId) -> Kinds
     }
 }
 
-/// Where a term over a table may stand.
+/// Where a term over a table may be used.
 #[cycle(kinds)]
 pub fn kinds_of(rows: &[Row], t: &Term) -> Kinds
     ensures { result ≡ kinds rows.now t.now }

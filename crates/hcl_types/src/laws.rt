@@ -1,11 +1,11 @@
-//! Theorems about terms and equations. Each is a function that does nothing and whose contract is the theorem.
+//! Theorems about terms and equations. Each is a function that does nothing; its contract is the theorem.
 ghost use Rattle.std.specs.Prelude.{◌≡◌, ℕ, ◌<◌, Bool, true, List, length, slice_set};
 ghost use Rattle.std.specs.List.{AllByRecursion};
 ghost use Rattle.hcl_types.specs.Equations.{IsSolution, IsLocal, IsTopologicalOrder, evaluated_along, is_known};
 ghost use Rattle.hcl_types.specs.Terms.{at, names, value, word_meaning};
 ghost use Rattle.hcl_types.specs.declared.term.Term.{Term};
 
-/// The value of a term depends on the names in it alone.
+/// The value of a term depends only on the names in it.
 pub fn law_of_values()
     ensures { (t : Term) (f g : ℕ → ℕ) → AllByRecursion (λ id. f id ≡ g id) (names t) → value word_meaning f t ≡ value word_meaning g t }
 {}

@@ -1,11 +1,11 @@
-//! The names in a term.
+//! The names in a term, from which the dependences between signals follow.
 ghost use Rattle.std.specs.Prelude.{◌≡◌, ◌++◌, map, OnOk};
 ghost use Rattle.hcl_types.specs.Terms.{branch_names, joined, names};
 
 use crate::term::{NameId, Term, TermBranch};
 use std::alloc::AllocError;
 
-/// Adds the names in a term, in text order and as often as they stand there.
+/// Appends the names in a term, in text order and with repetitions.
 #[cycle(naming)]
 pub fn put_names(t: &Term, out: &mut Vec<NameId>) -> Result<(), AllocError>
     ensures { OnOk result (out.new.items ≡ out.old.items ++ names t.now) }

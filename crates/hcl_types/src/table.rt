@@ -1,4 +1,4 @@
-//! Tables of signals: names, kinds and where values come from.
+//! Tables of signals: names, kinds and the sources of their values.
 ghost use Rattle.std.specs.Prelude.{◌≡◌};
 ghost use Rattle.hcl_types.specs.Tables as tables;
 
@@ -6,7 +6,7 @@ use crate::term::{NameId, Term};
 use hcl_tree::Text;
 use y86_base::Items;
 
-/// What the values of a row are.
+/// The kind of a row's values.
 #[derive(Clone, Copy, Debug, PartialEq, Eq)]
 pub enum Class {
     /// A constant.

@@ -21,7 +21,7 @@ pub fn is_below(x: u64, y: u64) -> bool
     x.cast_signed() < y.cast_signed()
 }
 
-/// Whether two words compare so, as signed numbers.
+/// Whether a comparison of two words, as signed numbers, is true.
 pub fn compare(op: CmpOp, x: u64, y: u64) -> bool
     ensures { result ≡ compare_words op x y }
 {

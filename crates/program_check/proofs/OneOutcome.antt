@@ -1,4 +1,4 @@
--- There is just one outcome of a run that is watched.
+-- A watched run has exactly one outcome.
 use Rattle.std.proofs.Common.{◌≡◌, ◌≢◌, ◌⊎◌, inl, inr, ℕ, ◌+◌, ◌-◌, ◌<◌, ◌≤◌, Bool, true, false, List, length, Option, refl, sym, ap, ◌∙◌, subst, arith}
 use Rattle.std.proofs.lemmas.Bool.{cases_lt, false≢true}
 use Rattle.yis_pure_runs.proofs.Near.{apart_near}
@@ -39,7 +39,7 @@ same_fields f g a b c d e =
     ≡ record { steps = g.steps; pc = g.pc; distance = g.distance; storer = g.storer; store = g.store } = rw (a, b, c, d, e) refl in
     same
 
--- the nearest is one
+-- no step after the nearest stored into the instruction
 not_nearer : (v : Variant) (image : List ℕ) (n d e a b : ℕ) → d < e → 1 ≤ d → d ≤ n → StoredInto v (run v image n) (retired v (run v image (n - d))) a b →
     ((j : ℕ) → n < j + e → j < n → StoredApart v (run v image n) (retired v (run v image j))) → ⊥
 not_nearer v image n d e a b lt some inside into apart =

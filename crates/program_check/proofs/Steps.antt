@@ -1,4 +1,4 @@
--- A run that is watched: one step more, its end, and the first instruction that fetches too soon.
+-- A watched run: one more step, its end, and the first instruction that fetches too soon.
 use Rattle.std.proofs.Common.{◌≡◌, ◌≢◌, ◌⊎◌, ◌↔◌, inl, inr, ℕ, ◌+◌, ◌-◌, ◌<◌, ◌≤◌, not, true, false, List, [], ◌∷◌, ◌++◌, length, Option, Some, None, refl, sym, ap, ◌∙◌, subst, arith, length-append}
 use Rattle.std.specs.Option.{option_to_list}
 use Rattle.std.proofs.lemmas.Bool.{cases_lt, false≢true, not-true}
@@ -19,7 +19,7 @@ use Rattle.program_check.specs.declared.recent.Recent.{Recent}
 use Rattle.program_check.specs.declared.watching.Watched.TheVariants.{Apart}
 use Rattle.program_check.proofs.Told.{AreRecent, told_at, told_is, told_outside}
 
--- ---- one step more
+-- ---- one more step
 three : (j n : ℕ) → j < n → n ≤ j + 3 → (j + 1 ≡ n) ⊎ (j + 2 ≡ n) ⊎ (j + 3 ≡ n)
 three j n lt le = elim (cases_lt (j + 1) n) [
   | inl one ↦ elim (cases_lt (j + 2) n) [ inl two ↦ inr (inr (omega arith)) | inr two ↦ inr (inl (omega arith)) ]
@@ -53,7 +53,7 @@ module _ (v : Variant) (image : List ℕ) (n : ℕ) (recent : Recent) (are : Are
       by (inl lt) = pure i j address lt earlier near on fetched stored
       by (inr le) = at (omega (arith, within, le))
 
-  -- ---- the first that fetches too soon
+  -- ---- the first instruction that fetches too soon
   into_at : (told : Option Rec) (d storer store : ℕ) → told ≡ told_at v image n d → StoredInto v (run v image n) told storer store →
       (d ≤ n) × StoredInto v (run v image n) (retired v (run v image (n - d))) storer store
   into_at told d storer store is into = by (cases_lt n d)
@@ -96,7 +96,7 @@ module _ (v : Variant) (image : List ℕ) (n : ℕ) (recent : Recent) (are : Are
 
 -- ---- the end
 
--- where the run has stopped, nothing is fetched any more
+-- after the run has stopped, nothing more is fetched
 near_on : (v : Variant) (image : List ℕ) (n : ℕ) → is_aok (run v image n).stat ≡ false → NearPure v image n → (k : ℕ) → NearPure v image k
 near_on v image n stopped pure k i j address within earlier near on fetched stored = by (cases_lt i n)
   where
@@ -124,7 +124,7 @@ ended v image n limit m at pure count within whole = record {
   near_on = λ h. near_on v image n (not-true (is_aok (run v image n).stat) (sym (ap (λ (z : Machine). not (is_aok z.stat)) at) ∙ h)) pure;
 }
 
--- one step more
+-- after one more step
 pub after_step : (v : Variant) (image : List ℕ) (n : ℕ) (m after : Machine) → m ≡ run v image n → after ≡ advance v m → after ≡ run v image (n + 1)
 after_step v image n m after at e = e ∙ ap (advance v) at ∙ sym (run_from-last v (start image) n)
 

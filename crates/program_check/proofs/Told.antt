@@ -1,4 +1,4 @@
--- The records of the steps before one.
+-- The records of the last steps before a step.
 use Rattle.std.proofs.Common.{◌≡◌, ℕ, zero, suc, ◌+◌, ◌-◌, ◌<◌, ◌≤◌, List, Option, None, refl, sym, ap, ◌∙◌, arith, add-one}
 use Rattle.y86_base.specs.declared.parts.Variant.{Variant}
 use Rattle.y86_isa.specs.Run.{run}
@@ -6,7 +6,7 @@ use Rattle.y86_isa.specs.Step.{retired}
 use Rattle.y86_isa.specs.declared.machine.Rec.{Rec}
 use Rattle.program_check.specs.declared.recent.Recent.{Recent}
 
--- what retired some steps before step n, or in it
+-- the record of the step that is d steps before step n; d = 0 gives step n itself
 pub told_at : Variant → List ℕ → ℕ → ℕ → Option Rec
 told_at v image n zero = retired v (run v image n)
 told_at v image zero (suc d) = None
@@ -30,7 +30,7 @@ unfolding told_at
 told_last v image zero = refl
 told_last v image (suc n) = refl
 
--- one step more
+-- the same record, seen from the next step
 pub told_more : (v : Variant) (image : List ℕ) (n d : ℕ) → told_at v image (n + 1) (d + 1) ≡ told_at v image n d
 unfolding told_at
 told_more v image n d = rw (add-one n, add-one d) refl

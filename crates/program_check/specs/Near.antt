@@ -1,4 +1,4 @@
--- Fetches that come too soon behind a store.
+-- Fetches that come too soon after a store.
 use Rattle.std.specs.Prelude.{◌≡◌, ◌≢◌, ◌⊎◌, ◌↔◌, ℕ, ◌+◌, ◌-◌, ◌<◌, ◌≤◌, Bool, true, false, List, length, Option, Some}
 use Rattle.yis_pure_runs.specs.Near.{NearPure}
 use Rattle.yis_pure_runs.specs.Purity.{AvoidsStore}
@@ -14,11 +14,12 @@ use Rattle.program_check.specs.declared.recent.Recent.{Recent}
 use Rattle.program_check.specs.declared.watching.Watched.{Watched}
 use Rattle.program_check.specs.declared.watching.Watched.TheVariants.{Apart, Meets}
 
--- what retired, if it stored, stored apart from the instruction at a machine's PC
+-- if the record has a store, it is apart from the instruction at a machine's PC
 abbrev pub StoredApart : Variant → Machine → Option Rec → Type 0
 StoredApart v m told = (r : Rec) (store : Store) → told ≡ Some r → r.store ≡ Some store → AvoidsStore v m store
 
--- what retired, at the address storer, stored at the address store, and that isn't apart from the instruction at a machine's PC
+-- an instruction at the address storer stored at the address store, and that isn't apart from the instruction at a
+-- machine's PC
 pub record StoredInto (v : Variant) (m : Machine) (told : Option Rec) (storer store : ℕ) : Type 0 where
   pub by : Rec
   pub word : Store
@@ -28,15 +29,17 @@ pub record StoredInto (v : Variant) (m : Machine) (told : Option Rec) (storer st
   pub store_is : store ≡ word.addr
   pub meets : AvoidsStore v m word → ⊥
 
--- the store is that of the last step, or of the one before it where that of the last one lies apart, or of the one before these
+-- the nearest of the last three steps with a store that isn't apart from the instruction; all nearer stores are apart
+-- from it
 abbrev pub IsNearest : Variant → Machine → Recent → NearFetch → Type 0
 IsNearest v m recent f =
     ((f.distance ≡ 1) × StoredInto v m recent.last f.storer f.store)
     ⊎ ((f.distance ≡ 2) × StoredApart v m recent.last × StoredInto v m recent.second f.storer f.store)
     ⊎ ((f.distance ≡ 3) × StoredApart v m recent.last × StoredApart v m recent.second × StoredInto v m recent.third f.storer f.store)
 
--- The first instruction that fetches a byte which one of the three before it stored: it does so in a step, behind as many steps; it is the
--- distance behind the nearest of those that stored such a byte; where the two stand, and where the store begins.
+-- The first instruction that fetches a byte which one of the three before it stored. `steps` instructions precede it,
+-- and the nearest instruction that stored such a byte is `distance` steps before it. `pc` and `storer` are the
+-- addresses of the two, and the store begins at `store`.
 pub record IsFirstNear (v : Variant) (image : List ℕ) (f : NearFetch) : Type 0 where
   pub earlier : NearPure v image f.steps
   pub goes_on : (run v image f.steps).stat ≡ Aok
@@ -47,8 +50,8 @@ pub record IsFirstNear (v : Variant) (image : List ℕ) (f : NearFetch) : Type 0
   pub into : StoredInto v (run v image f.steps) (retired v (run v image (f.steps - f.distance))) f.storer f.store
   pub nearest : (j : ℕ) → f.steps < j + f.distance → j < f.steps → StoredApart v (run v image f.steps) (retired v (run v image j))
 
--- No instruction among the first so many fetches a byte that one of the three before it stored. Behind them the program has stopped, and then
--- this holds however long it runs; or it has not, and these are as many as the limit.
+-- None of the first `steps` instructions fetches a byte that one of the three before it stored. After them, either the
+-- program has stopped, and then this holds however long it runs; or it has not stopped, and `steps` is the limit.
 pub record IsApart (v : Variant) (image : List ℕ) (limit steps : ℕ) (stopped : Bool) : Type 0 where
   pub within : steps ≤ limit
   pub count : length (records v image steps) ≡ steps
@@ -57,7 +60,7 @@ pub record IsApart (v : Variant) (image : List ℕ) (limit steps : ℕ) (stopped
   pub near : NearPure v image steps
   pub near_on : stopped ≡ true → (k : ℕ) → NearPure v image k
 
--- what is found out about a program by at most some number of steps
+-- the result of watching a program for at most `limit` steps
 abbrev pub IsWatched : Variant → List ℕ → ℕ → Watched → Type 0
 IsWatched v image limit (Apart steps stopped) = IsApart v image limit steps stopped
 IsWatched v image limit (Meets f) = (f.steps < limit) × IsFirstNear v image f

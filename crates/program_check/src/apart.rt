@@ -1,4 +1,4 @@
-//! Whether a store lies apart from the instruction that a machine fetches.
+//! Whether a store is apart from the instruction that a machine fetches.
 ghost use Rattle.std.specs.Prelude.{◌≡◌, ◌↔◌, ◌≤◌, IsTrue};
 ghost use Rattle.yis_pure_runs.specs.Purity.{AvoidsStore};
 ghost use Rattle.y86_isa.specs.Run.{fetched_count};
@@ -6,7 +6,7 @@ ghost use Rattle.y86_isa.specs.Run.{fetched_count};
 use y86_base::{Image, Variant};
 use y86_isa::{Machine, Store, icode_count, row};
 
-/// How many bytes the instruction at a PC has: none where the PC is outside, one where its byte begins no instruction.
+/// How many bytes the instruction at a PC fetches: none if the PC is outside, one if its byte begins no instruction.
 fn count_fetched(v: Variant, memory: &Image, pc: u64) -> u64
     ensures count { result ≡ fetched_count v memory.now pc }
 {
@@ -23,7 +23,8 @@ fn count_fetched(v: Variant, memory: &Image, pc: u64) -> u64
     }
 }
 
-/// Whether the 8 bytes of a store lie wholly before those that the instruction at a machine's PC fetches, or wholly behind them.
+/// Whether the 8 bytes of a store are all before those that the instruction at a machine's PC fetches, or all after
+/// them.
 pub fn lies_apart(v: Variant, m: &Machine, store: Store) -> bool
     ensures { IsTrue result ↔ AvoidsStore v m.now store }
 {

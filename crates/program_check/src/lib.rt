@@ -1,4 +1,5 @@
-//! Whether a program fetches a byte that one of the three instructions before had stored: its run, watched.
+//! Watches the run of a program: does it fetch a byte that one of the three instructions before had stored? The
+//! pipeline's theorem covers only programs that don't.
 #![tactic(auto)]
 
 mod apart;

@@ -1,4 +1,4 @@
-//! A program that stores over the constant of an instruction some steps before it is fetched.
+//! Tests of a program that stores over the constant of an instruction some steps before that instruction is fetched.
 ghost use Rattle.std.specs.Prelude.{◌<◌};
 
 use crate::recent::NearFetch;

@@ -1,4 +1,4 @@
-//! A run that is watched.
+//! Watches the run of a program.
 ghost use Rattle.std.specs.Prelude.{◌≡◌, not};
 ghost use Rattle.program_check.specs.Near.{IsWatched};
 ghost use Rattle.y86_isa.specs.Machine.{is_aok};
@@ -7,12 +7,13 @@ use crate::recent::{NearFetch, Recent, near_fetch};
 use y86_base::{Image, Stat, Variant};
 use y86_isa::{Machine, step};
 
-/// What was found out.
+/// The outcome of a watched run.
 #[derive(Clone, Copy, Debug, PartialEq, Eq)]
 pub enum Watched {
-    /// No instruction fetched what one of the three before it stored, in so many steps; and whether the program has stopped behind them.
+    /// In this number of steps no instruction fetched what one of the three before it stored; and whether the program
+    /// has then stopped.
     Apart(u64, bool),
-    /// The first instruction that did.
+    /// The first instruction that fetched what one of the three before it stored.
     Meets(NearFetch),
 }
 
@@ -23,8 +24,8 @@ fn has_stopped(stat: Stat) -> bool
     !matches!(stat, Stat::Aok)
 }
 
-/// Runs an image by its instructions, for at most `limit` steps, as long as none fetches a byte that one of the three before it stored. It
-/// takes no memory.
+/// Runs an image instruction by instruction, for at most `limit` steps, as long as no instruction fetches a byte that
+/// one of the three before it stored. It allocates nothing.
 pub fn watch(v: Variant, image: Image, limit: u64) -> Watched
     ensures { IsWatched v image limit result }
 {

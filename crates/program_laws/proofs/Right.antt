@@ -1,4 +1,5 @@
--- What the calls answer of a program that stops, in which no instruction fetches a byte that one of the three before it stored.
+-- The answers of the calls for a program that stops, in which no instruction fetches a byte that one of the three
+-- before it stored.
 use Rattle.std.proofs.Common.{◌≡◌, ◌≢◌, ◌*◌, ◌≤◌, inl, inr, ℕ, Bool, true, false, List, [], ◌++◌, length, Option, Some, Result, Ok, refl, sym, ap, subst, ◌∙◌}
 use Rattle.dp_signals.specs.PipeRun.{PipeHistory}
 use Rattle.dp_signals.specs.PipeTable.{pipe_rows}
@@ -33,7 +34,7 @@ use Rattle.y86_cli.proofs.Bigs.{not_long, not_missing, not_refused, one_design, 
 use Rattle.y86_cli.proofs.Loaded.{loaded_is_image}
 use Rattle.program_laws.specs.Prints.{PrintsReport, PrintsRun}
 
--- ---- what was watched
+-- ---- the watched run
 
 pub watched_stops : (v : Variant) (image : List ℕ) (most steps : ℕ) → IsWatched v image most (Apart steps true) → StopsIn v image steps
 watched_stops v image most steps is = record { records = is.count; stopped = is.end.0 refl }

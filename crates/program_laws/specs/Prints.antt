@@ -1,4 +1,4 @@
--- What `psim` and `yis` print of a program that stops, where it is what the run by instructions says.
+-- What `psim` and `yis` print for a program that stops, if it is what the run by instructions says.
 use Rattle.std.specs.Prelude.{◌≡◌, ℕ, ◌*◌, ◌≤◌, Bool, List, ◌++◌}
 use Rattle.retire_trace.specs.Drive.{traced}
 use Rattle.wb_io.specs.Sinks.{Appended}
@@ -9,8 +9,8 @@ use Rattle.cli_plans.specs.Stages.{run_status}
 use Rattle.cli_plans.specs.PlanFollowing.{SinkState}
 use Rattle.cli_runs.specs.PipeRuns.{ran_line}
 
--- The trace, where it is asked for, is that of the records of the run by instructions, which stops in so many steps. The report is that of
--- the machine that they left, and the status too. The cycles are at most five for each step.
+-- The trace, if it is asked for, is that of the records of the run by instructions, which stops after `steps` steps.
+-- The report is that of the machine at its end, and so is the status. There are at most five cycles for each step.
 pub record PrintsRun (v : Variant) (image : List ℕ) (steps : ℕ) (trace : Bool) (before after : SinkState) (status : ℕ) : Type 0 where
   pub cycles : ℕ
   pub in_time : cycles ≤ 5 * steps

@@ -1,4 +1,4 @@
-//! Theorems about an accepted file and a program. Each is a function that does nothing and whose contract is the theorem.
+//! Theorems about an accepted file and a program. Each is a function that does nothing; its contract is the theorem.
 ghost use Rattle.std.specs.Prelude.{◌≡◌, ◌≢◌, ◌*◌, ◌≤◌, Bool, List, ℕ, length, Option, Ok, Some, false, true};
 ghost use Rattle.pipe_refinement.specs.Refines.{Refines};
 ghost use Rattle.prog_cosim.specs.Ends.{StopsIn};
@@ -13,10 +13,16 @@ ghost use Rattle.cli_plans.specs.PlanFollowing.{FilesState, SinkState};
 ghost use Rattle.y86_cli.specs.CallContract.{CallContract};
 ghost use Rattle.y86_words.specs.Forms.{form_of, psim, yis};
 
-/// The theorem for your pipeline and your program. `check pipe` accepted the HCL file, the object file loads, and `watch` of that image
-/// answers that the program stops in `steps` steps and fetches nothing that one of the three instructions before stored. Then `psim` of
-/// both, with a limit of at least five cycles for each step, prints the trace and the report of the run by instructions, within that time.
-/// `yis` prints the same report with the same status. Excepted are calls with a failed read, a failed write or too little memory.
+/// The theorem for your pipeline and your program. Suppose that:
+///
+/// - `check pipe` accepted the HCL file;
+/// - the object file loads;
+/// - `watch` of its image finds that the program stops in `steps` steps, and that it fetches nothing that one of the
+///   three instructions before stored.
+///
+/// Then `psim` of both, with a limit of at least five cycles for each step, prints the trace and the report of the run
+/// by instructions, within that time. `yis` prints the same report with the same status. Excepted are calls with a
+/// failed read, a failed write or too little memory.
 pub fn law_of_checked_programs()
     ensures psim { (words : List (List ℕ)) (name object text bytes image : List ℕ) (size limit most steps : ℕ) (trace : Bool) (v : Variant)
         (files_before files_after : FilesState) (out_before out_after err_before err_after : SinkState) (status : ℕ) →
@@ -35,9 +41,10 @@ pub fn law_of_checked_programs()
         PrintsReport v image steps out_before out_after status }
 {}
 
-/// The same for every program that doesn't write its own code, without a call of `watch`. Under an accepted file the pipeline refines the
-/// run of instructions on each image none of whose first k instructions fetches a byte that an earlier one stored, for k cycles. Where no
-/// instruction does, and the program stops, `psim` prints its run as above.
+/// The same for every program that doesn't write its own code, without a call of `watch`. Consider an image of which
+/// none of the first k instructions fetches a byte that an earlier one stored. Under an accepted file the pipeline
+/// refines the run of instructions on this image for k cycles. If no instruction of a program fetches such a byte, and
+/// the program stops, `psim` prints its run as above.
 pub fn law_of_pure_programs()
     ensures refines { (v : Variant) (told : Option (Option (List ℕ))) (h : HasAccepted v told) (image : List ℕ) (k : ℕ) →
         IsImage image → Pure v image k → Refines v h.terms image k }

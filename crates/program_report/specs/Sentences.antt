@@ -23,7 +23,7 @@ open_text steps =
 abbrev pub distance_word : ℕ → List ℕ
 distance_word distance = if distance == 1 then codes "one step" else (if distance == 2 then codes "two steps" else codes "three steps")
 
--- it fetches what one of the three instructions before stored
+-- it fetches what one of the three instructions before it stored
 unfoldable pub meets_text : NearFetch → List ℕ
 meets_text f =
     concat (codes "The instruction at 0x" ∷ numeral 16 3 f.pc ∷ codes " fetches a byte that the instruction at 0x" ∷ numeral 16 3 f.storer ∷ codes " stored " ∷ distance_word f.distance

@@ -1,4 +1,4 @@
-//! What a user is told of a program: whether the theorem about accepted HCL files covers it, from its object text, in sentences.
+//! The report on a program, in sentences: whether the theorem about accepted HCL files covers it, from its object text.
 #![tactic(auto)]
 
 mod object;

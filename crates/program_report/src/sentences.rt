@@ -1,4 +1,4 @@
-//! The outcome of a watched run as sentences.
+//! Prints the outcome of a watched run as sentences.
 ghost use Rattle.std.specs.Prelude.{◌≡◌, ◌≤◌};
 ghost use Rattle.program_check.specs.declared.watching.Watched.TheVariants.{Apart, Meets};
 ghost use Rattle.program_report.specs.Sentences as spec;
@@ -42,7 +42,7 @@ fn put_open<O: Sink>(steps: u64, out: &mut O) -> Result<(), Failed>
     )
 }
 
-/// How many steps a distance is, in words.
+/// A distance as a number of steps, in words.
 fn distance_word(distance: u64) -> &'static [u8]
     ensures { result.now ≡ spec.distance_word distance }
 {
@@ -82,7 +82,7 @@ fn put_meets<O: Sink>(found: NearFetch, out: &mut O) -> Result<(), Failed>
     )
 }
 
-/// Writes what was found out. It takes no memory.
+/// Writes the outcome. It allocates nothing.
 #[tactic(auto, unfolding(crate::specs::Sentences::watched_text))]
 pub fn put_watched<O: Sink>(watched: Watched, out: &mut O) -> Result<(), Failed>
     ensures puts { AppendsText (O.taken out.old) (O.taken out.new) result (watched_text watched) }
@@ -95,7 +95,7 @@ pub fn put_watched<O: Sink>(watched: Watched, out: &mut O) -> Result<(), Failed>
     }
 }
 
-/// The exit status: 0 where the theorem covers the program, else 1.
+/// The exit status: 0 if the theorem covers the program, else 1.
 pub fn watched_status(watched: Watched) -> u8
     ensures status { result ≡ spec.watched_status watched }
     ensures low { result ≤ 1 }

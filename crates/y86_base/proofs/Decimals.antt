@@ -1,4 +1,4 @@
--- The definition of a decimal number reads the form in a grammar's words.
+-- The definition of a decimal number accepts exactly the form that the grammar gives (`law_of_decimals`).
 use Rattle.std.proofs.Common.{◌≡◌, ◌↔◌, ℕ, ◌^◌, ◌<◌, Bool, true, false, cond, List, [], ◌∷◌, ◌++◌, length, take_while, refl, sym, ap, ◌∙◌, Option, Some, None, arith}
 use Rattle.std.specs.Prelude.{unwrap_or, ◌==◌}
 use Rattle.std.specs.List.{list_all}
@@ -10,11 +10,11 @@ use Rattle.y86_base.specs.Number.{IsDecimal, decimal_at, digits_at, sign_of, uns
 use Rattle.y86_base.specs.Text.{begins, behind, below_word, is_decimal}
 use Rattle.y86_base.proofs.Runs.{begins_front, behind-run, run_and_rest, run_passes, run_some, run_stops, take_while-run}
 
--- a number below 2^64 is its own word
+-- a number below 2^64 is returned unchanged
 pub below_word_small : (n : ℕ) → n < 2 ^ 64 → below_word n ≡ Some n
 below_word_small n small = ap (λ b. cond b (Some n) None) (lt-ltb n (2 ^ 64) small)
 
--- the form behind the sign
+-- the form after the sign
 record IsUnsigned (negative : Bool) (text : List ℕ) (number : Number) (rest : List ℕ) : Type 0 where
   digits : List ℕ
   sign : number.negative ≡ negative

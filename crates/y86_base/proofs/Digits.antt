@@ -9,7 +9,7 @@ pub digits_onto-nothing : (base n : ℕ) → digits_onto 64 base false n [] ≡ 
 unfolding digits
 digits_onto-nothing base n = refl
 
--- the last digit in front of those that stand there, with room for `room` digits
+-- the last digit goes in front of those already written, with space for `room` digits
 turn : (base n : ℕ) (behind : List ℕ) (room : ℕ) (t : Bool) → eqb (n / base) 0 ≡ t →
     digits_onto (suc room) base false n behind
     ≡ cond t (digit_glyph false (n % base) ∷ behind) (digits_onto room base false (n / base) (digit_glyph false (n % base) ∷ behind))
@@ -28,7 +28,7 @@ digits_onto-more base n behind (suc room) h e =
     turn base n behind room false (ne_eqb _ 0 e)
     ∙ ap (λ (j : ℕ). digits_onto j base false (n / base) (digit_glyph false (n % base) ∷ behind)) {x = room} {y = suc room - 1} (omega arith)
 
--- a byte in front of those from a place on
+-- after a byte is set in front of position `at`, the bytes from there are it and those from `at`
 pub placed : (xs : List ℕ) (at byte : ℕ) → 0 < at → at ≤ length xs → drop (at - 1) (set xs (at - 1) byte) ≡ byte ∷ drop at xs
 placed xs at byte some within =
     let lt : at - 1 < length xs = omega arith in
@@ -38,7 +38,7 @@ placed xs at byte some within =
 pub shorter_front : (xs ys : List ℕ) (at : ℕ) → take at xs ≡ take at ys → take (at - 1) xs ≡ take (at - 1) ys
 shorter_front xs ys at e = sym (take-take (at - 1) at xs (omega arith)) ∙ ap (take (at - 1)) e ∙ take-take (at - 1) at ys (omega arith)
 
--- a text at the end of a buffer that is `0` in front of it, from where it has its least width
+-- text at the end of a buffer that is filled with `0` before it, from the position that gives it its least width
 pub padded : (bytes text : List ℕ) (size at least : ℕ) → at ≤ size → length bytes ≡ size → least ≤ size →
     drop at bytes ≡ text → take at bytes ≡ take at (replicate size 48) →
     drop (min at (size - least)) bytes ≡ replicate (least - length text) 48 ++ text

@@ -1,4 +1,4 @@
--- The first line of a text and the lines behind it.
+-- The first line of a text and the lines after it.
 use Rattle.std.proofs.Common.{◌≡◌, ◌⊎◌, inl, inr, ℕ, ◌+◌, ◌<◌, Bool, true, false, cond, not, All, List, [], ◌∷◌, ◌++◌, length, take, drop, append_assoc, refl, sym, ap, ◌∙◌, arith}
 use Rattle.std.proofs.lemmas.List.{append-nil}
 use Rattle.std.proofs.lemmas.List.Elements.{All-nil, All-cons, All-head, All-tail}
@@ -10,7 +10,7 @@ use Rattle.y86_base.specs.Text.{HasNoLineFeed, is_line_feed, lines, with_line_fe
 abbrev IsInLine : ℕ → Type 0
 IsInLine byte = is_line_feed byte ≡ false
 
--- one byte in front of a text whose first line has n bytes
+-- one byte in front of text whose first line has n bytes
 step : (ends : Bool) (byte : ℕ) (rest : List ℕ) (n : ℕ) → lines rest ≡ take n rest ∷ lines (drop 1 (drop n rest)) →
     cond ends ([] ∷ lines rest) (onto_first byte (lines rest))
     ≡ take (cond (not ends) (1 + n) 0) (byte ∷ rest) ∷ lines (drop 1 (drop (cond (not ends) (1 + n) 0) (byte ∷ rest)))
@@ -22,7 +22,7 @@ last_byte : (ends : Bool) (byte : ℕ) →
 last_byte true byte = refl
 last_byte false byte = refl
 
--- a text that is not empty is its first line, and the lines of what stands behind
+-- text that is not empty consists of its first line and the lines of what follows
 pub lines-first : (bytes : List ℕ) → 0 < length bytes →
     lines bytes ≡ take (position_or_len is_line_feed bytes) bytes ∷ lines (drop 1 (drop (position_or_len is_line_feed bytes) bytes))
 lines-first [] h = absurd (omega arith)
@@ -89,7 +89,7 @@ pub HasNoLineFeed-lines : (text : List ℕ) → All HasNoLineFeed (lines text)
 HasNoLineFeed-lines [] = All-nil HasNoLineFeed
 HasNoLineFeed-lines (byte ∷ bytes) = step-no (is_line_feed byte) byte (lines bytes) refl (HasNoLineFeed-lines bytes)
 
--- lines with a line feed behind each are a text, but perhaps for one more
+-- lines with a line feed after each give the text, perhaps with one more line feed at its end
 abbrev Rejoins : List (List ℕ) → List ℕ → Type 0
 Rejoins parts text = (with_line_feeds parts ≡ text) ⊎ (with_line_feeds parts ≡ text ++ 10 ∷ [])
 

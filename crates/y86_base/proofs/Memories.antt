@@ -1,4 +1,4 @@
--- A word that is put into a memory, and a word that is written to a register.
+-- Reading back a word that was stored in memory, or written to a register.
 use Rattle.std.proofs.Common.{◌≡◌, ◌≢◌, ℕ, ◌+◌, ◌<◌, ◌≤◌, ◌^◌, ◌⊎◌, inl, inr, true, false, cond, nat_le, nat_lt, List, ◌++◌, length, take, drop, Option, Some, None, refl, sym, ap, ◌∙◌, arith, length-append, length-take, length-drop}
 use Rattle.std.specs.Int.{from_le_bytes, to_le_bytes, w64}
 use Rattle.std.proofs.lemmas.Bool.{agree_below_at, cases_lt, cond_both, eqb-true, le-leb, leb-true, lt-leb, lt-ltb}
@@ -55,7 +55,7 @@ pub put_outside : (memory : List ℕ) (address word : ℕ) → length memory < a
 unfolding put_word
 put_outside memory address word h = rw (lt-leb (address + 8) (length memory) h) refl
 
--- bytes put at an address leave those before them and those behind them
+-- bytes stored at an address leave the bytes before and after them unchanged
 front_only : (front rest : List ℕ) (other : ℕ) → other + 8 ≤ length front → take 8 (drop other (front ++ rest)) ≡ take 8 (drop other front)
 front_only front rest other h =
     ap (take 8) (drop-append-le other front rest (omega arith))

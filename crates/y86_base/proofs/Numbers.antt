@@ -2,16 +2,16 @@
 use Rattle.std.proofs.Common.{◌≡◌, ℕ, zero, suc, ◌<◌, inl, inr, Bool, true, ◌&&◌, ◌==◌, refl, sym, subst, arith}
 use Rattle.std.proofs.lemmas.Bool.{and_parts, cases_eq, eq-eqb}
 
--- a number is equal to itself, as a test
+-- the test of equality accepts equal numbers
 pub eqb_self : (x : ℕ) → (x == x) ≡ true
 eqb_self x = eq-eqb x x refl
 
--- a test of each number below a bound
+-- a test passes for each number below a bound
 unfoldable pub each_number : ℕ → (ℕ → Bool) → Bool
 each_number zero p = true
 each_number (suc n) p = each_number n p && p n
 
--- a test that holds of each number below a bound holds of this one
+-- a test that passes for each number below a bound passes for this one
 pub number_tests : (n : ℕ) (p : ℕ → Bool) → each_number n p ≡ true → (k : ℕ) → k < n → p k ≡ true
 unfolding each_number
 number_tests zero p h k lt = absurd (omega (arith, lt))

@@ -1,4 +1,4 @@
--- What the text of a number says: read back it is the number, and it is as wide as asked.
+-- The numeral of a number has at least the width asked for, and read back it gives the number.
 use Rattle.std.proofs.Common.{◌≡◌, ⊎_elim, All, [], max, ◌&&◌, ◌||◌, ℕ, zero, suc, ◌+◌, ◌-◌, ◌*◌, eqb, ◌/◌, ◌%◌, ◌^◌, ◌<◌, ◌≤◌, Bool, true, false, cond, nat_lt, List, ◌∷◌, ◌++◌, length, replicate, slice_get, Some, refl, sym, ap, ◌∙◌, arith, length-append}
 use Rattle.std.proofs.Math.Nat.{div-add-mod, pow-le-pow_left, pow-suc, pow-zero}
 use Rattle.std.proofs.lemmas.Bool.Decides.{eqb_tells, nat_tests}
@@ -30,7 +30,7 @@ unfolding numeral
 numeral_width base least n =
     omega (arith, length-append (replicate (least - length (digits base false n)) 48) (digits base false n), length-replicate {A = ℕ})
 
--- a width of 1 puts no `0` in front
+-- a width of 1 adds no `0` in front
 pub numeral_plain : (base n : ℕ) → 2 ≤ base → base ≤ 16 → n < base ^ 64 → numeral base 1 n ≡ digits base false n
 unfolding numeral
 numeral_plain base n low high small =
@@ -38,7 +38,7 @@ numeral_plain base n low high small =
     let none : 1 - length (digits base false n) ≡ 0 = omega arith in
     ap (λ k. replicate k 48 ++ digits base false n) none
 
--- every number below 2^64 has room for its digits
+-- the digits of every number below 2^64 fit into 64 bytes
 pub word_has_room : (base n : ℕ) → 2 ≤ base → n < 2 ^ 64 → n < base ^ 64
 word_has_room base n low small = let most : 2 ^ 64 ≤ base ^ 64 = pow-le-pow_left low 64 in omega arith
 
@@ -54,7 +54,7 @@ numeral_digits base least n low high small =
     let zeros = least - length (digits base false n) in
     (omega (arith, length-append (replicate zeros 48) (digits base false n)), AllDigits-zeros base zeros (digits base false n) (omega arith) is.1)
 
--- a digit of a numeral in lower case
+-- a lower-case digit of a numeral
 abbrev IsLower : ℕ → Type 0
 IsLower digit = (is_decimal digit || is_lower_hex digit) ≡ true
 
@@ -79,12 +79,12 @@ numeral_lower base least n low high =
     All-append IsLower (replicate (least - length (digits base false n)) 48) (digits base false n)
     (All-replicate IsLower (least - length (digits base false n)) 48 refl) (digits_lower base (omega arith) high 64 n [] (All-nil IsLower))
 
--- a digit that isn't 0 is not written `0`
+-- a digit other than 0 is not written `0`
 glyph_above : (small : Bool) (digit : ℕ) → 0 < digit → cond small (48 + digit) (87 + digit) ≡ 48 → ⊥
 glyph_above true digit some e = omega arith
 glyph_above false digit some e = omega arith
 
--- digits that were put in front of others begin with `0`
+-- the first digit is `0`, after the digits of n went in front of others
 abbrev BeginsWithZero : ℕ → ℕ → ℕ → List ℕ → Type 0
 BeginsWithZero room base n behind = slice_get (digits_onto room base false n behind) 0 ≡ Some 48
 
@@ -104,7 +104,7 @@ leading_more base room n behind shorter low fits more e =
     (ap (λ k. slice_get (digits_onto k base false (n / base) (digit_glyph false (n % base) ∷ behind)) 0) (sym room_is)
     ∙ sym (ap (λ ds. slice_get ds 0) (digits_onto-more base n behind (suc room) (omega arith) more)) ∙ e)
 
--- the digits of a number that isn't 0 do not begin with `0`
+-- the digits of a number other than 0 do not begin with `0`
 leading : (base : ℕ) → 2 ≤ base → (room n : ℕ) (behind : List ℕ) → 0 < n → n < base ^ room → BeginsWithZero room base n behind → ⊥
 leading base low zero n behind some fits e = absurd (omega (arith, pow-zero base))
 leading base low (suc room) n behind some fits e =
@@ -112,7 +112,7 @@ leading base low (suc room) n behind some fits e =
     (λ more. leading_more base room n behind (leading base low room) low (omega (arith, pow-suc base room)) more.1 e)
     (eqb_tells (n / base) 0)
 
--- more digits than one begin with no `0`
+-- two or more digits do not begin with `0`
 several : (base n : ℕ) → 2 ≤ base → n < base ^ 64 → 1 < length (digits base false n) → slice_get (digits base false n) 0 ≡ Some 48 → ⊥
 several base zero low small long e =
     let none : 0 / base ≡ 0 = omega arith in

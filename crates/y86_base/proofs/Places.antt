@@ -1,4 +1,4 @@
--- The line and the column behind a text, from its last line feed.
+-- The line and the column after a text, from its last line feed.
 use Rattle.std.proofs.Common.{◌≡◌, ℕ, ◌+◌, ◌-◌, ◌<◌, Bool, false, cond, not, List, [], ◌∷◌, ◌++◌, length, reverse, count_by, append_assoc, refl, sym, ap, subst, ◌∙◌, arith}
 use Rattle.std.specs.List.{position_or_len}
 use Rattle.std.proofs.lemmas.List.{get_or-reverse, length-reverse, reverse-append}
@@ -16,7 +16,7 @@ HasNoLineFeed-reverse text h k d lt =
 one_more : (ends : Bool) (n : ℕ) → ends ≡ false → cond (not ends) (1 + n) 0 ≡ n + 1
 one_more ends n e = rw e (omega arith)
 
--- the first line feed stands behind the bytes that are none
+-- the first line feed comes after the bytes that are none
 front : (text rest : List ℕ) → HasNoLineFeed text → position_or_len is_line_feed (text ++ 10 ∷ rest) ≡ length text
 front [] rest h = refl
 front (byte ∷ text) rest h =

@@ -1,4 +1,4 @@
--- The bytes at the front of a text that pass a test, as many as there are.
+-- The longest run of bytes at the front of a text that pass a test (`law_of_runs`).
 use Rattle.std.proofs.Common.{◌≡◌, ◌↔◌, ℕ, suc, ◌+◌, ◌<◌, Bool, true, false, cond, eqb, List, [], ◌∷◌, ◌++◌, length, take, drop, refl, sym, ap, ◌∙◌, Some, None, take_while, arith}
 use Rattle.std.specs.List.{list_all, prefix_len}
 use Rattle.std.proofs.Math.Numerals.{one-add}

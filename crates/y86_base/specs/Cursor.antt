@@ -1,4 +1,4 @@
--- A place in a text, and its line and column, which follow from what stands before it.
+-- A position in a text, and its line and column, which follow from the text before it.
 use Rattle.std.specs.Prelude.{ℕ, ◌+◌, ◌≡◌, ◌≤◌, List, length, take, count_by, reverse}
 use Rattle.std.specs.List.{position_or_len}
 use Rattle.y86_base.specs.Text.{is_line_feed}
@@ -8,7 +8,7 @@ pub record CursorState : Type 0 where
   pub done : List ℕ
   pub left : List ℕ
 
--- the line of the place behind a text: one more than the line feeds in it
+-- the line of the position after a text: one more than the line feeds in it
 abbrev pub line_behind : List ℕ → ℕ
 line_behind done = count_by is_line_feed done + 1
 
@@ -16,7 +16,7 @@ line_behind done = count_by is_line_feed done + 1
 abbrev pub column_behind : List ℕ → ℕ
 column_behind done = position_or_len is_line_feed (reverse done) + 1
 
--- the counts that go with a place in a text
+-- the counts that go with a position in a text
 pub record IsAtPlace (bytes : List ℕ) (at line_feeds since : ℕ) : Type 0 where
   pub within : at ≤ length bytes
   pub lines : line_feeds ≡ count_by is_line_feed (take at bytes)

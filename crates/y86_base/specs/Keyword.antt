@@ -1,4 +1,4 @@
--- Tables of fixed texts with their meanings.
+-- Tables of fixed texts with their meanings, such as mnemonics and register names.
 use Rattle.std.specs.Prelude.{ℕ, nat_eq, if◌then◌else◌, List, [], ◌∷◌, length, drop, Option, Some, None}
 use Rattle.std.specs.List.{starts_with}
 use Rattle.std.specs.Str.{bytes_eq}
@@ -8,12 +8,12 @@ use Rattle.y86_base.specs.declared.keyword.Keyword.{Keyword}
 abbrev pub entry : {A : Type 0} → Keyword A → List ℕ × A
 entry row = (row.text.now, row.meaning)
 
--- the first of some fixed texts that stands in front, by its meaning, and what stands behind it
+-- the first row whose text is at the front, by its meaning, and what follows the text
 unfoldable pub keyword_at : {A : Type 0} → List (List ℕ × A) → List ℕ → Option (A × List ℕ)
 keyword_at [] text = None
 keyword_at (row ∷ rows) text = if starts_with nat_eq text row.0 then Some (row.1, drop (length row.0) text) else keyword_at rows text
 
--- what a text means that is one of some fixed texts
+-- the meaning of a whole text, from the first row that has it
 unfoldable pub meaning_of : {A : Type 0} → List (List ℕ × A) → List ℕ → Option A
 meaning_of [] text = None
 meaning_of (row ∷ rows) text = if bytes_eq text row.0 then Some row.1 else meaning_of rows text

@@ -1,7 +1,7 @@
 -- The register file as a list of 15 numbers. Number 15 means no register (CS:APP 3e, figure 4.4).
 use Rattle.std.specs.Prelude.{ℕ, List, [], ◌∷◌, codes, map, slice_index, slice_index_or, slice_set, nat_lt, if◌then◌else◌}
 
--- what a register number reads: 0 for a number over 14
+-- the word of a register, by its number; 0 for a number over 14
 unfoldable pub register : List ℕ → ℕ → ℕ
 register registers number = if nat_lt number 15 then slice_index registers number else 0
 

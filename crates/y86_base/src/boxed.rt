@@ -1,12 +1,12 @@
-//! Boxes that contracts see as their values.
+//! Boxes that contracts see as their values, so that proofs about trees needn't mention memory.
 ghost use Rattle.std.specs.Prelude.{◌≡◌, IfOk};
 
 use crate::parts::Memory;
 use std::alloc::Global;
 use std::marker::Model;
 
-/// A `Box` that contracts see as its value, so that trees are compared by what they hold, all the way down:
-/// neither place nor allocator counts.
+/// A `Box` that contracts see as its value. Trees are compared by their contents, all the way down: neither address
+/// nor allocator counts.
 #[derive(Debug, Drop)]
 pub struct Boxed<T> {
     inner: Box<T>,
@@ -21,7 +21,7 @@ impl<T> Model for Boxed<T> {
 }
 
 impl<T: Drop> Boxed<T> {
-    /// A value in memory of its own.
+    /// Puts a value into memory of its own.
     pub fn of(alloc: Global, value: T) -> Result<Boxed<T>, Memory>
         ensures { IfOk result (λ it. it ≡ value) }
     {
@@ -33,14 +33,14 @@ impl<T: Drop> Boxed<T> {
 }
 
 impl<T> Boxed<T> {
-    /// The value.
+    /// Borrows the value.
     pub fn get(&self) -> &T
         ensures { result.now ≡ self.now }
     {
         &self.inner
     }
 
-    /// The value, moved out.
+    /// Moves the value out.
     pub fn into_inner(self) -> T
         ensures { result ≡ self }
     {

@@ -1,4 +1,4 @@
-//! A reader of bytes that knows its line and column.
+//! A reader of bytes that knows its line and column, for the positions in error messages.
 ghost use Rattle.std.specs.Prelude.{◌≡◌, ◌∷◌, ◌++◌, [], ◌↔◌, IfNone, IfSome, IsNone, slice_get};
 ghost use Rattle.y86_base.specs.Cursor.{column_behind, line_behind};
 
@@ -26,7 +26,7 @@ impl<'a> Model for Cursor<'a> {
 }
 
 impl<'a> Cursor<'a> {
-    /// At the first byte of a text.
+    /// A cursor at the first byte of a text.
     pub fn new(bytes: &'a [u8]) -> Cursor<'a>
         ensures nothing_done { result.done ≡ [] }
         ensures all_left { result.left ≡ bytes.now }
@@ -39,14 +39,14 @@ impl<'a> Cursor<'a> {
         }
     }
 
-    /// The byte at the place, if the text goes on.
+    /// The byte at the position, or None at the end.
     pub fn peek(&self) -> Option<u8>
         ensures { result ≡ slice_get self.now.left 0 }
     {
         self.bytes.get(self.at).copied()
     }
 
-    /// Reads the byte at the place; None, and no move, exactly at the end.
+    /// Reads the byte at the position; None, without a move, exactly at the end.
     pub fn next(&mut self) -> Option<u8>
         ensures none_at_the_end { IsNone result ↔ (self.old.left ≡ []) }
         ensures first_of_the_rest { IfSome result (λ byte. self.old.left ≡ byte ∷ self.new.left) }
@@ -67,14 +67,14 @@ impl<'a> Cursor<'a> {
         Some(byte)
     }
 
-    /// The line of the place, from 1.
+    /// The line of the position, from 1.
     pub fn line(&self) -> u64
         ensures { result ≡ line_behind self.now.done }
     {
         self.line_feeds + 1
     }
 
-    /// The column of the place in bytes, from 1.
+    /// The column of the position in bytes, from 1.
     pub fn col(&self) -> u64
         ensures { result ≡ column_behind self.now.done }
     {

@@ -1,4 +1,4 @@
-//! Images: the bytes of a memory.
+//! Memory images: the bytes of a machine's memory, with words read and written in little-endian order.
 ghost use Rattle.std.specs.Prelude.{◌≡◌, ◌+◌, ◌≤◌, IfOk, IsErrOf, IsTrue, OnOk, ◌↔◌, length, nat_le, nat_lt, replicate, slice_get, slice_set};
 ghost use Rattle.y86_base.specs.Image.{AreBytes, IsSize, put_word, word_at};
 ghost use Rattle.y86_base.specs.Image as spec;
@@ -24,14 +24,14 @@ impl Model for Image {
     ghost invariant = { λ image. IsSize (length image.bytes.items) };
 }
 
-/// Why there is no image of a size.
+/// Why an image couldn't be made: its size isn't permitted, or the allocation failed.
 #[derive(Clone, Copy, Debug, PartialEq, Eq)]
 pub enum ImageFault {
     Size,
     Memory,
 }
 
-/// Whether an image takes a size in bytes: a multiple of 8 from 64 to 1,048,576.
+/// Whether a size in bytes is permitted for an image: a multiple of 8 from 64 to 1,048,576.
 #[tactic(auto, unfolding(crate::specs::Image::is_image_size))]
 pub fn is_image_size(size: u64) -> bool
     ensures test { result ≡ spec.is_image_size size }
@@ -41,7 +41,7 @@ pub fn is_image_size(size: u64) -> bool
 }
 
 impl Image {
-    /// The smallest and the largest size, in bytes.
+    /// The smallest permitted size in bytes; `MOST` is the largest.
     pub const LEAST: u64 = 64;
 
     pub const MOST: u64 = 1_048_576;
@@ -62,7 +62,7 @@ impl Image {
         }
     }
 
-    /// The size in bytes. It takes no time, and its contract says what holds of every image.
+    /// The size in bytes. The call is free at run time; its contract states what holds for every image.
     pub fn size(&self) -> u64
         ensures size { result ≡ length self.now }
         ensures legal { IsSize result }
@@ -101,7 +101,7 @@ impl Image {
         ]))
     }
 
-    /// Writes a word, little-endian, and says whether all its bytes are inside.
+    /// Writes a word, little-endian, and returns whether all its bytes are inside. Otherwise it writes nothing.
     #[tactic(auto, unfolding(crate::specs::Image::put_word))]
     pub fn put(&mut self, address: u64, word: u64) -> bool
         ensures inside { result ≡ nat_le (address + 8) (length self.old) }
@@ -116,7 +116,7 @@ impl Image {
         true
     }
 
-    /// Writes a byte, and says whether it is inside.
+    /// Writes a byte, and returns whether it is inside.
     pub fn put_byte(&mut self, address: u64, byte: u8) -> bool
         ensures inside { result ≡ nat_lt address (length self.old) }
         ensures written { self.new ≡ slice_set self.old address byte }

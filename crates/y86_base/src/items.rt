@@ -1,10 +1,10 @@
-//! Lists that contracts see as their elements.
+//! Lists that contracts see as their elements, so that proofs needn't mention memory.
 ghost use Rattle.std.specs.Prelude.{◌≡◌};
 
 use std::marker::Model;
 
-/// A `Vec` that contracts see as the list of its elements, so that values are compared by their elements, all
-/// the way down: neither capacity nor allocator counts.
+/// A `Vec` that contracts see as the list of its elements. Values are compared by their elements, all the way down:
+/// neither capacity nor allocator counts.
 #[derive(Debug, Drop)]
 pub struct Items<T> {
     inner: Vec<T>,
@@ -25,21 +25,21 @@ impl<T> Items<T> {
     ghost use Rattle.std.specs.Borrow.{sem};
     ghost use Rattle.y86_base.specs.Lending.{LendsItems};
 
-    /// The elements of a `Vec`.
+    /// Wraps a `Vec`.
     pub fn of(v: Vec<T>) -> Items<T>
         ensures { result ≡ v.items }
     {
         Items { inner: v }
     }
 
-    /// The elements.
+    /// Borrows the elements.
     pub fn items(&self) -> &[T]
         ensures { result.now ≡ self.now }
     {
         self.inner.as_slice()
     }
 
-    /// The elements, to be written one by one.
+    /// Borrows the elements to write them one by one.
     pub fn items_mut(&mut self) -> &mut [T]
         ensures* writes_back { sem 𝓛 (LendsItems T.row self.entry result) }
         ensures value { result.now ≡ self.old }
@@ -47,7 +47,7 @@ impl<T> Items<T> {
         self.inner.as_mut_slice()
     }
 
-    /// The `Vec` that holds the elements.
+    /// Unwraps the `Vec`.
     pub fn into_vec(self) -> Vec<T>
         ensures { result.items ≡ self }
     {

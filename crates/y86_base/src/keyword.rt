@@ -1,4 +1,4 @@
-//! Fixed texts and what they mean.
+//! Tables of fixed texts and their meanings, such as mnemonics and register names.
 ghost use Rattle.std.specs.Prelude.{◌≡◌, MatchOption, None, Some, map};
 ghost use Rattle.y86_base.specs.Keyword as table;
 
@@ -9,7 +9,7 @@ pub struct Keyword<T> {
     pub meaning: T,
 }
 
-/// The first of some fixed texts that stands in front, by its meaning, and the bytes behind it.
+/// The first row whose text is at the front, by its meaning, and the bytes after the text.
 #[tactic(auto, unfolding(crate::specs::Keyword::keyword_at))]
 pub fn keyword_at<'a, T: Copy>(mut rows: &[Keyword<T>], text: &'a [u8]) -> Option<(T, &'a [u8])>
     ensures { MatchOption result (table.keyword_at (map table.entry rows.entry.now) text.now ≡ None)
@@ -24,7 +24,7 @@ pub fn keyword_at<'a, T: Copy>(mut rows: &[Keyword<T>], text: &'a [u8]) -> Optio
     None
 }
 
-/// What a text means that is one of some fixed texts.
+/// The meaning of a whole text, from the first row that has it.
 #[tactic(auto, unfolding(crate::specs::Keyword::meaning_of))]
 pub fn meaning_of<T: Copy>(mut rows: &[Keyword<T>], text: &[u8]) -> Option<T>
     ensures { result ≡ table.meaning_of (map table.entry rows.entry.now) text.now }

@@ -1,4 +1,5 @@
-//! Theorems about the definitions of texts, memories and words. Each is a function that does nothing and whose contract is the theorem.
+//! Theorems about the definitions of texts, memories and words. Each is a function that does nothing; its contract is
+//! the theorem.
 ghost use Rattle.std.specs.Prelude.{◌≡◌, ◌≢◌, ◌⊎◌, ℕ, ◌+◌, ◌^◌, ◌<◌, ◌≤◌, ◌↔◌, ◌||◌, true, max, All, List, [], ◌∷◌, ◌++◌, length, slice_get, take_while, Bool, None, Some};
 ghost use Rattle.std.specs.Char.{digit_value};
 ghost use Rattle.std.specs.Str.Parse.{IsNumeral, digits_value};
@@ -12,9 +13,9 @@ ghost use Rattle.y86_base.specs.Stat.{stat_number, stat_of};
 ghost use Rattle.y86_base.specs.declared.number.Number.{Number};
 ghost use Rattle.y86_base.specs.Text.{HasNoLineFeed, IsRun, behind, hex_value, is_decimal, is_hex, is_lower_hex, lines, with_line_feeds};
 
-/// No line has a line feed, and the lines with a line feed behind each are the text again, but perhaps for one
-/// more at its end. Some lines with a line feed behind each are the lines of their text, also with a last line
-/// behind them that isn't empty and has no line feed of its own.
+/// No line has a line feed. The lines with a line feed after each are the text again, perhaps with one more line feed
+/// at its end. Conversely, lines with a line feed after each are the lines of their text, also if a last line follows
+/// that isn't empty and has no line feed.
 pub fn law_of_lines()
     ensures no_line_feed { (text : List ℕ) → All HasNoLineFeed (lines text) }
     ensures again { (text : List ℕ) →
@@ -24,8 +25,8 @@ pub fn law_of_lines()
         0 < length last → lines (with_line_feeds some ++ last) ≡ some ++ last ∷ [] }
 {}
 
-/// The line of a place is one more than the line feeds before it. Its column is one more than the bytes since the
-/// last of them, or since the beginning where there is none.
+/// The line of a position is one more than the line feeds before it. Its column is one more than the bytes since the
+/// last line feed, or since the beginning if there is none.
 pub fn law_of_places()
     ensures first_line { (done : List ℕ) → HasNoLineFeed done →
         (line_behind done ≡ 1) × (column_behind done ≡ length done + 1) }
@@ -34,14 +35,14 @@ pub fn law_of_places()
         × (column_behind (before ++ 10 ∷ since) ≡ length since + 1) }
 {}
 
-/// The digits are those that the standard library reads, with their values.
+/// The digits, and their values, are those of the standard library.
 pub fn law_of_digits()
     ensures decimal { (byte : ℕ) → (is_decimal byte ≡ true) ↔ (digit_value byte < 10) }
     ensures hex { (byte : ℕ) → (is_hex byte ≡ true) ↔ (digit_value byte < 16) }
     ensures value { (byte : ℕ) → is_hex byte ≡ true → hex_value byte ≡ digit_value byte }
 {}
 
-/// The text of a number is a numeral of its base in lower case, which has its value and its least width. Where it
+/// The text of a number is a numeral of its base in lower case, which has its value and at least its least width. If it
 /// is wider, it doesn't begin with `0`.
 pub fn law_of_numerals()
     ensures numeral { (base least n : ℕ) → 2 ≤ base → base ≤ 16 → n < 2 ^ 64 → IsNumeral base (numeral base least n) }
@@ -54,20 +55,20 @@ pub fn law_of_numerals()
         max least 1 < length (numeral base least n) → slice_get (numeral base least n) 0 ≢ Some 48 }
 {}
 
-/// The bytes at the front that pass a test are as many as there are: the definition splits a text just so.
+/// The bytes at the front that pass a test are the longest such run: the definition splits a text exactly so.
 pub fn law_of_runs()
     ensures { (passes : ℕ → Bool) (text front rest : List ℕ) →
         ((take_while passes text ≡ front) × (behind passes text ≡ rest)) ↔ IsRun passes text front rest }
 {}
 
-/// A decimal number is read just where one stands: an optional `-` and directly behind it digits, as many as there are.
+/// A decimal number is read exactly if there is one: an optional `-` and directly after it the longest run of digits.
 pub fn law_of_decimals()
     ensures { (text : List ℕ) (number : Number) (rest : List ℕ) →
         (decimal_at text ≡ Some (number, rest)) ↔ IsDecimal text number rest }
 {}
 
-/// A word that is put is read back at its address; a word beside it, and the size, stay. Where one of its bytes is
-/// outside, nothing is read or changes.
+/// A stored word is read back at its address; words beside it, and the size, are unchanged. If one of its bytes is
+/// outside, nothing is read and nothing changes.
 pub fn law_of_words()
     ensures written { (memory : List ℕ) (address word : ℕ) → address + 8 ≤ length memory → word < 2 ^ 64 →
         word_at (put_word memory address word) address ≡ Some word }
@@ -78,7 +79,7 @@ pub fn law_of_words()
         (word_at memory address ≡ None) × (put_word memory address word ≡ memory) }
 {}
 
-/// A register that was written reads the word, and every other reads what it did. A number over 14 reads 0 and
+/// A register that was written reads the word, and every other register is unchanged. A number over 14 reads 0 and
 /// writes nothing. Each register has a name of its own.
 pub fn law_of_registers()
     ensures written { (registers : List ℕ) (number word : ℕ) → length registers ≡ 15 → number < 15 →
@@ -90,7 +91,7 @@ pub fn law_of_registers()
     ensures names { (number : ℕ) → number < 15 → meaning_of register_names (register_name number) ≡ Some number }
 {}
 
-/// A number below 5 is that of its status.
+/// A number below 5 is the number of the status that it gives.
 pub fn law_of_statuses()
     ensures { (n : ℕ) → n < 5 → stat_number (stat_of n) ≡ n }
 {}

@@ -1,4 +1,4 @@
-//! The memory image, the register file, the flags and the status, and the words of text that all formats share.
+//! The types that all crates share: memory image, register file, flags and status, and the reading of bytes and lines.
 #![tactic(auto)]
 
 mod boxed;

@@ -1,10 +1,10 @@
-//! Numbers as they are written in a text.
+//! Numbers as they are written in a file: a sign and a magnitude, so that each use can check its own range.
 ghost use Rattle.std.specs.Prelude.{◌≡◌, MatchOption, None, Some};
 ghost use Rattle.y86_base.specs.Number as spec;
 
 use crate::text::{after_byte, is_decimal, number_in_base, split_decimal};
 
-/// A number as it is written. A magnitude of None stands for 2^64 or more.
+/// A number as it is written. A magnitude of None means 2^64 or more.
 #[derive(Clone, Copy, Debug, PartialEq, Eq)]
 pub struct Number {
     pub negative: bool,
@@ -12,7 +12,7 @@ pub struct Number {
 }
 
 impl Number {
-    /// The number as a word, where it lies from -`below` to `above`; a negative one counts modulo 2^64.
+    /// The number as a word, if it is between -`below` and `above`; a negative one counts modulo 2^64.
     #[tactic(auto, unfolding(crate::specs::Number::word_within))]
     pub fn word_within(self, below: u64, above: u64) -> Option<u64>
         ensures { result ≡ spec.word_within below above self }
@@ -51,7 +51,7 @@ fn unsigned_at(negative: bool, bytes: &[u8]) -> Option<(Number, &[u8])>
     ))
 }
 
-/// The decimal number in front, an optional `-` directly before its digits, and the bytes behind it.
+/// The decimal number in front, with an optional `-` directly before its digits, and the bytes after it.
 #[tactic(auto, unfolding(crate::specs::Number::decimal_at))]
 pub fn decimal_at(bytes: &[u8]) -> Option<(Number, &[u8])>
     ensures { MatchOption result (spec.decimal_at bytes.now ≡ None)

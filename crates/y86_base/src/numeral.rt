@@ -1,4 +1,4 @@
-//! The texts of numbers.
+//! Prints numbers, in decimal and hex.
 ghost use Rattle.std.specs.Prelude.{◌≡◌, ◌≤◌, ◌<◌, ◌+◌, ◌++◌, OnOk, false, length, take, drop};
 ghost use Rattle.std.specs.Fmt.{digit_glyph, digits};
 ghost use Rattle.std.specs.Str.Parse.{digits_value};
@@ -8,7 +8,7 @@ use crate::parts::Memory;
 use crate::text::put;
 use std::marker::Model;
 
-/// The text of a number, in a buffer of its own: it takes no memory. Contracts see the bytes of the text.
+/// The text of a number, in a buffer of its own, so that it allocates nothing. Contracts see the bytes of the text.
 #[derive(Debug, Drop)]
 pub struct Numeral {
     bytes: [u8; 64],
@@ -37,7 +37,7 @@ fn digit(value: u64) -> u8
     }
 }
 
-/// Writes the digits of `n` so that they end where the buffer ends, and says where they begin.
+/// Writes the digits of `n` so that they end where the buffer ends, and returns where they begin.
 fn write_digits(base: u64, n: u64, bytes: &mut [u8; 64]) -> usize
     requires least_base { 2 ≤ base }
     requires most_base { base ≤ 16 }
@@ -59,7 +59,7 @@ fn write_digits(base: u64, n: u64, bytes: &mut [u8; 64]) -> usize
 }
 
 impl Numeral {
-    /// The digits of `n` in a base from 2 to 16, with `0` in front up to `least` digits.
+    /// The digits of `n` in a base from 2 to 16, padded with `0` to `least` digits.
     fn in_base(base: u64, least: usize, n: u64) -> Numeral
         requires least_base { 2 ≤ base }
         requires most_base { base ≤ 16 }
@@ -80,7 +80,7 @@ impl Numeral {
         Numeral::in_base(10, 1, n)
     }
 
-    /// The lower-case hex digits of `n`, with `0` in front up to `least` digits.
+    /// The lower-case hex digits of `n`, padded with `0` to `least` digits.
     pub fn hex(least: usize, n: u64) -> Numeral
         requires { least ≤ 64 }
         ensures text { result ≡ numeral 16 least n }
@@ -98,7 +98,7 @@ impl Numeral {
     }
 }
 
-/// Puts a word as a signed decimal number.
+/// Appends a word as a signed decimal number.
 #[tactic(auto, unfolding(crate::specs::Numeral::signed_decimal))]
 pub fn put_signed(out: &mut Vec<u8>, n: u64) -> Result<(), Memory>
     ensures { OnOk result (out.new.items ≡ out.old.items ++ signed_decimal n) }

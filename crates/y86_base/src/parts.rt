@@ -1,8 +1,8 @@
-//! The small types of all crates: want of memory, the instruction set, flags and statuses.
+//! The small types of all crates: out of memory, the instruction set, flags and statuses.
 ghost use Rattle.std.specs.Prelude.{◌≡◌};
 ghost use Rattle.y86_base.specs.Stat.{stat_name, stat_number, stat_of};
 
-/// Want of memory: an allocation was refused.
+/// Out of memory: an allocation was refused.
 #[derive(Clone, Copy, Debug, PartialEq, Eq)]
 pub struct Memory;
 
@@ -24,8 +24,8 @@ pub struct Flags {
 
 /// The status of a machine, of an instruction or of a pipeline stage (CS:APP 3e, figure 4.5).
 ///
-/// `Bub` is that of a bubble, `Pip` that of a pipeline register which is stalled and bubbled at once, and
-/// `Bad` stands for a number that is no status.
+/// `Bub` is the status of a bubble, `Pip` that of a pipeline register that is stalled and bubbled at once, and
+/// `Bad` means a number that is no status.
 #[derive(Clone, Copy, Debug, PartialEq, Eq)]
 pub enum Stat {
     Bub,
@@ -38,7 +38,7 @@ pub enum Stat {
 }
 
 impl Stat {
-    /// The status of a number: bubble 0, AOK 1, HLT 2, ADR 3, INS 4, and `Bad` for more.
+    /// The status with a number: bubble 0, AOK 1, HLT 2, ADR 3, INS 4, and `Bad` for any other.
     pub fn of(n: u64) -> Stat
         ensures { result ≡ stat_of n }
     {
@@ -52,7 +52,7 @@ impl Stat {
         }
     }
 
-    /// The number of a status, which `of` reads back: 0 to 4; 5 for `Pip` and 6 for `Bad`, which no number gives.
+    /// The number of a status: 0 to 4, which `of` reads back; 5 for `Pip` and 6 for `Bad`, which have no number in HCL.
     pub fn number(self) -> u64
         ensures { result ≡ stat_number self }
     {
@@ -67,7 +67,7 @@ impl Stat {
         }
     }
 
-    /// The name of a status in texts.
+    /// The name of a status in output.
     pub fn name(self) -> &'static [u8]
         ensures { result.now ≡ stat_name self }
     {

@@ -24,7 +24,7 @@ impl Model for Regs {
 }
 
 impl Regs {
-    /// All registers 0.
+    /// A register file of zeros.
     pub fn zero() -> Regs
         ensures { result ≡ replicate 15 0 }
     {
@@ -49,7 +49,7 @@ impl Regs {
         }
     }
 
-    /// The name of the register numbered `n`, as `%rax`; no bytes for a number over 14.
+    /// The name of the register numbered `n`, such as `%rax`; no bytes for a number over 14.
     #[tactic(auto, unfolding(crate::specs::Registers::register_name, crate::specs::Registers::register_names))]
     pub fn name(n: u64) -> &'static [u8]
         ensures { result.now ≡ register_name n }

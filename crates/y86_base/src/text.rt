@@ -1,4 +1,4 @@
-//! Bytes and lines of texts.
+//! What all file formats share: tests of bytes, and functions that split blanks, digits, names and lines off the front.
 ghost use Rattle.std.specs.Prelude.{◌≡◌, ◌<◌, ◌≤◌, ◌+◌, ◌*◌, ℕ, ◌∷◌, [], length, take_while, true, MatchOption, IfSome, ◌++◌, OnOk};
 ghost use Rattle.std.specs.Char.{digit_value};
 ghost use Rattle.std.specs.List.{position_or_len, prefix_len};
@@ -8,7 +8,7 @@ ghost use Rattle.y86_base.specs.Text as text;
 
 use crate::parts::Memory;
 
-/// Puts bytes behind a text.
+/// Appends bytes to the output.
 pub fn put(out: &mut Vec<u8>, bytes: &[u8]) -> Result<(), Memory>
     ensures { OnOk result (out.new.items ≡ out.old.items ++ bytes.now) }
 {
@@ -39,7 +39,7 @@ pub fn is_hex(byte: u8) -> bool
     byte.is_ascii_hexdigit()
 }
 
-/// A letter of ASCII.
+/// An ASCII letter.
 pub fn is_letter(byte: u8) -> bool
     ensures { result ≡ text.is_letter byte }
 {
@@ -53,7 +53,7 @@ pub fn is_name_byte(byte: u8) -> bool
     is_letter(byte) || byte == b'_' || is_decimal(byte)
 }
 
-/// What stands behind a byte, where the text begins with it.
+/// What follows a byte, if the text begins with it.
 pub fn after_byte(bytes: &[u8], byte: u8) -> Option<&[u8]>
     ensures { option_copied result ≡ text.after_byte byte bytes.now }
 {
@@ -88,7 +88,7 @@ fn value_of_digit(byte: u8) -> u64
     }
 }
 
-/// A number with one more digit behind it, where it is below 2^64.
+/// A number with one more digit after it, if it is below 2^64.
 fn with_digit(value: Option<u64>, base: u64, digit: u64) -> Option<u64>
     requires { 1 ≤ base }
     ensures { (n : ℕ) → value ≡ text.below_word n → result ≡ text.below_word (n * base + digit) }
@@ -108,7 +108,7 @@ pub fn number_in_base(base: u64, digits: &[u8]) -> Option<u64>
     value
 }
 
-/// How many blanks stand at the front.
+/// How many blanks there are at the front.
 fn blank_count(bytes: &[u8]) -> usize
     ensures count { result ≡ prefix_len text.is_blank bytes.now }
     ensures within { result ≤ length bytes.now }
@@ -116,14 +116,14 @@ fn blank_count(bytes: &[u8]) -> usize
     bytes.iter().take_while(|byte| is_blank(**byte)).count()
 }
 
-/// What stands behind the blanks at the front.
+/// What follows the blanks at the front.
 pub fn after_blanks(bytes: &[u8]) -> &[u8]
     ensures { result.now ≡ text.behind text.is_blank bytes.now }
 {
     bytes.split_at(blank_count(bytes)).1
 }
 
-/// How many hex digits stand at the front.
+/// How many hex digits there are at the front.
 fn hex_count(bytes: &[u8]) -> usize
     ensures count { result ≡ prefix_len text.is_hex bytes.now }
     ensures within { result ≤ length bytes.now }
@@ -131,7 +131,7 @@ fn hex_count(bytes: &[u8]) -> usize
     bytes.iter().take_while(|byte| is_hex(**byte)).count()
 }
 
-/// The hex digits at the front, and what stands behind them.
+/// The hex digits at the front, and what follows them.
 pub fn split_hex(bytes: &[u8]) -> (&[u8], &[u8])
     ensures digits { result.0.now ≡ take_while text.is_hex bytes.now }
     ensures rest { result.1.now ≡ text.behind text.is_hex bytes.now }
@@ -139,7 +139,7 @@ pub fn split_hex(bytes: &[u8]) -> (&[u8], &[u8])
     bytes.split_at(hex_count(bytes))
 }
 
-/// How many decimal digits stand at the front.
+/// How many decimal digits there are at the front.
 fn decimal_count(bytes: &[u8]) -> usize
     ensures count { result ≡ prefix_len text.is_decimal bytes.now }
     ensures within { result ≤ length bytes.now }
@@ -147,7 +147,7 @@ fn decimal_count(bytes: &[u8]) -> usize
     bytes.iter().take_while(|byte| is_decimal(**byte)).count()
 }
 
-/// The decimal digits at the front, and what stands behind them.
+/// The decimal digits at the front, and what follows them.
 pub fn split_decimal(bytes: &[u8]) -> (&[u8], &[u8])
     ensures front { result.0.now ≡ take_while text.is_decimal bytes.now }
     ensures rest { result.1.now ≡ text.behind text.is_decimal bytes.now }
@@ -155,7 +155,7 @@ pub fn split_decimal(bytes: &[u8]) -> (&[u8], &[u8])
     bytes.split_at(decimal_count(bytes))
 }
 
-/// How many bytes of a name stand at the front.
+/// How many bytes of a name there are at the front.
 fn name_count(bytes: &[u8]) -> usize
     ensures count { result ≡ prefix_len text.is_name_byte bytes.now }
     ensures within { result ≤ length bytes.now }
@@ -163,7 +163,7 @@ fn name_count(bytes: &[u8]) -> usize
     bytes.iter().take_while(|byte| is_name_byte(**byte)).count()
 }
 
-/// The bytes of a name at the front, and what stands behind them.
+/// The bytes of a name at the front, and what follows them.
 pub fn split_name(bytes: &[u8]) -> (&[u8], &[u8])
     ensures front { result.0.now ≡ take_while text.is_name_byte bytes.now }
     ensures rest { result.1.now ≡ text.behind text.is_name_byte bytes.now }
@@ -171,7 +171,7 @@ pub fn split_name(bytes: &[u8]) -> (&[u8], &[u8])
     bytes.split_at(name_count(bytes))
 }
 
-/// How many bytes the first line has, its line feed apart.
+/// The length of the first line in bytes, without its line feed.
 fn line_length(bytes: &[u8]) -> usize
     ensures place { result ≡ position_or_len text.is_line_feed bytes.now }
     ensures within { result ≤ length bytes.now }
@@ -179,7 +179,7 @@ fn line_length(bytes: &[u8]) -> usize
     bytes.iter().take_while(|byte| **byte != b'\n').count()
 }
 
-/// The first line of a text, without its line feed, and what stands behind it; None for an empty text.
+/// The first line of a text, without its line feed, and what follows it; None for an empty text.
 #[tactic(auto, using(crate::proofs::Lines::lines_of_first, crate::proofs::Lines::lines_of_last))]
 pub fn first_line(bytes: &[u8]) -> Option<(&[u8], &[u8])>
     ensures lines { MatchOption result (bytes.now ≡ [])

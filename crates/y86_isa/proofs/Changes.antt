@@ -1,4 +1,4 @@
--- What a step may change of the registers, the flags and the PC.
+-- Which of the registers, the flags and the PC a step may change.
 use Rattle.std.proofs.Common.{◌≡◌, ◌≢◌, ℕ, ◌+◌, ◌%◌, ◌^◌, ◌⊎◌, inl, inr, Bool, true, false, cond, ◌||◌, List, Option, IfSome, refl, sym, ap, ◌∙◌, arith}
 use Rattle.std.proofs.lemmas.Bool.{false≢true}
 use Rattle.y86_base.specs.Registers.{register, with_register}
@@ -34,7 +34,7 @@ two_beside : (registers : List ℕ) (e word_e m word_m n : ℕ) → (n ≢ e) �
 two_beside registers e word_e m word_m n he hm =
     register_beside (with_register registers e word_e) m word_m n hm ∙ register_beside registers e word_e n he
 
--- the one destination beside %rsp
+-- the one destination other than %rsp
 abbrev the_other : Bool → ℕ → ℕ → ℕ
 the_other m_is_none e m = cond m_is_none e m
 
@@ -48,7 +48,7 @@ stack_or_none true true n h = inl h
 stack_or_none true false n h = inr refl
 stack_or_none false cnd n h = inl h
 
--- what the columns say of the two destinations
+-- a register other than %rsp and that destination is neither of the two destinations
 destinations : (dst_e dst_m : RegisterColumn) (r_a r_b : ℕ) (conditional cnd : Bool) → (is_dash dst_m || is_dash dst_e || is_stack dst_e) ≡ true → (n : ℕ) →
     n ≢ 4 → n ≢ the_other (is_dash dst_m) (destination_e conditional cnd (register_number dst_e r_a r_b)) (register_number dst_m r_a r_b) →
     ((n ≢ destination_e conditional cnd (register_number dst_e r_a r_b)) ⊎ (destination_e conditional cnd (register_number dst_e r_a r_b) ≡ 15))
@@ -98,7 +98,7 @@ flags_kept : (v : Variant) (m : Machine) → (row v (work v m).icode).sets_flags
 unfolding work
 flags_kept v m unset = rw unset refl
 
--- the icode of a record is that of the work
+-- the flags are kept if the row of the record's icode doesn't set them
 flags_case : (v : Variant) (m after : Machine) (r : Option Rec) → Advances v m after r → IfSome r (λ x. (row v x.icode).sets_flags ≡ false → after.flags ≡ m.flags)
 flags_case v m _ _ (stays e) = tt
 flags_case v m _ _ (stops e w) = λ unset. refl

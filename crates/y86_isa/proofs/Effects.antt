@@ -1,4 +1,4 @@
--- What a step does, by the work of its instruction, also where the instruction stops.
+-- The effect of a step, by the work of its instruction, also if the instruction stops.
 use Rattle.std.proofs.Common.{◌≡◌, ℕ, ◌<◌, ◌⊎◌, inl, inr, Bool, true, false, not, ◌&&◌, ◌||◌, ◌==◌, cond, List, None, refl, sym, ap, ◌∙◌, arith}
 use Rattle.std.proofs.lemmas.Bool.{cases_Bool, eqb-true}
 use Rattle.y86_base.specs.declared.parts.Flags.{Flags}
@@ -114,7 +114,7 @@ flags-stops v m h =
       | inr fault ↦ (accesses_agree v (work v m).icode).flags (access-from_fault v m fault)
     ])
 
--- ---- so memory and flags after a step are those of the work, whether it stops or not
+-- ---- so memory and flags after a step are as its work says, whether it stops or not
 
 pub mem-by_work : (v : Variant) (m : Machine) → is_aok m.stat ≡ true → (advance v m).mem ≡ stored m.mem (work v m).store
 unfolding stored
@@ -133,7 +133,7 @@ flags-by_work v m live =
 
 -- ---- a column that isn't a dash names a register
 
--- the number that a column with an operand names is a register
+-- if a column has an operand, the number that it names is a register
 pub number_lt : (field : RegisterColumn) (ua ub : Bool) (r_a r_b : ℕ) → ((not (is_field_a field) || ua) && (not (is_field_b field) || ub)) ≡ true →
     (ua ≡ true → r_a < 15) → (ub ≡ true → r_b < 15) → is_dash field ≡ false → register_number field r_a r_b < 15
 number_lt Dash ua ub r_a r_b n a b h = cc

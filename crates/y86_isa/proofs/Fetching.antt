@@ -1,4 +1,4 @@
--- What the bytes of a memory read as.
+-- Bytes and words that are read from memory, at addresses inside it and at addresses that wrap.
 use Rattle.std.proofs.Common.{◌≡◌, ℕ, ◌+◌, ◌-◌, ◌%◌, ◌^◌, inl, inr, ◌<◌, ◌≤◌, List, length, take, drop, get_or, Some, slice_get, refl, sym, ap, ◌∙◌, arith, length-take, length-drop}
 use Rattle.std.proofs.lemmas.List.{get_or-drop, get_or-take}
 use Rattle.std.proofs.lemmas.Option.{slice_get-get_or}
@@ -10,7 +10,7 @@ use Rattle.y86_base.proofs.Memories.{word_inside, word_outside}
 use Rattle.y86_isa.specs.Blocks.{byte_at, word_from}
 use Rattle.y86_isa.specs.Encoding.{Holds}
 
--- ---- bytes that a memory holds
+-- ---- bytes that memory holds
 
 pub held_inside : (memory bytes : List ℕ) (pc k : ℕ) → Holds memory pc bytes → k < length bytes → pc + k < length memory
 held_inside memory bytes pc k h lt =
@@ -45,7 +45,7 @@ unfolding word_from
 word_from-bytes memory word address h =
     rw (h 0 (omega arith), h 1 (omega arith), h 2 (omega arith), h 3 (omega arith), h 4 (omega arith), h 5 (omega arith), h 6 (omega arith), h 7 (omega arith)) refl
 
--- a word that is all inside is the word of its bytes
+-- if a word is all inside, it is the word of its bytes
 word_of_inside : (memory : List ℕ) (address : ℕ) → IsSize (length memory) → address + 8 ≤ length memory → word_from memory address ≡ from_le_bytes w64 (take 8 (drop address memory))
 word_of_inside memory address size h =
     let bytes = take 8 (drop address memory) in

@@ -1,4 +1,4 @@
--- What a run keeps of an image, and images that are pure.
+-- A run keeps an image an image, and an image that is pure for some steps is pure for fewer.
 use Rattle.std.proofs.Common.{◌≡◌, ◌≢◌, ℕ, zero, suc, ◌≤◌, false, List, length, refl, sym, ap, ◌∙◌, arith}
 use Rattle.std.proofs.lemmas.Bool.{false≢true}
 use Rattle.y86_base.specs.declared.parts.Stat.{Stat}

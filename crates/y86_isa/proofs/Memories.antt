@@ -1,4 +1,4 @@
--- What a store leaves of a memory.
+-- Which bytes and words of a memory a store leaves unchanged.
 use Rattle.std.proofs.Common.{◌≡◌, ℕ, ◌+◌, ◌-◌, ◌<◌, ◌≤◌, ◌⊎◌, inl, inr, nat_le, List, ◌++◌, length, take, drop, get_or, Option, Some, None, slice_get, All, refl, sym, ap, ◌∙◌, arith, length-take}
 use Rattle.std.specs.Int.{to_le_bytes, w64}
 use Rattle.std.proofs.lemmas.Bool.{cond_both, leb-true, cases_lt}
@@ -20,7 +20,7 @@ bytes_of_word word =
     All-from_recursion IsByte (to_le_bytes w64 word)
     (omega arith, (omega arith, (omega arith, (omega arith, (omega arith, (omega arith, (omega arith, (omega arith, tt))))))))
 
--- ---- a word that is put where it is inside
+-- ---- a word that is stored inside memory
 
 All-put_word : (memory : List ℕ) (address word : ℕ) → All IsByte memory → All IsByte (put_word memory address word)
 unfolding put_word
@@ -45,7 +45,7 @@ All-stored memory (Some store) h = All-put_word memory store.addr store.word h
 pub IsImage-stored : (memory : List ℕ) (store : Option Store) → IsImage memory → IsImage (stored memory store)
 IsImage-stored memory store h = record { sized = rw (length-stored memory store) h.sized; bytes = All-stored memory store h.bytes }
 
--- ---- the bytes beside a word that is put
+-- ---- the bytes around a stored word
 
 below_word : (memory : List ℕ) (address word k : ℕ) → address + 8 ≤ length memory → k < address →
     get_or (take address memory ++ (to_le_bytes w64 word ++ drop (address + 8) memory)) k 0 ≡ get_or memory k 0
@@ -67,7 +67,7 @@ get_or-put_word_other memory address word k h =
     (λ e. elim h [ inl lt ↦ below_word memory address word k (leb-true _ _ e) lt | inr le ↦ above_word memory address word k (leb-true _ _ e) le ])
     (λ _. refl)
 
--- two memories of one size that read alike at an address have the same byte there, if any
+-- if two memories of one size read alike at an address, they have the same byte there, if any
 pub same_byte : (xs ys : List ℕ) (k : ℕ) → length xs ≡ length ys → get_or xs k 0 ≡ get_or ys k 0 → slice_get xs k ≡ slice_get ys k
 same_byte xs ys k same e =
     elim (cases_lt k (length ys)) [

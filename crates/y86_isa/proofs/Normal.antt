@@ -14,6 +14,6 @@ kept_by_normal r =
     (record { pc = refl; icode = refl; ifun = refl; flags = refl; stat = refl })
     (record { pc = refl; icode = refl; ifun = refl; flags = refl; stat = refl })
 
--- with another status than AOK all else counts for nothing
+-- if the status isn't AOK, the normal form depends on nothing else that may differ
 pub normal-bad : (r s : Rec) → is_aok r.stat ≡ false → SameButDone r s → normal s ≡ normal r
 normal-bad r s bad h = rw (h.stat, bad, h.pc, h.icode, h.ifun, h.flags) refl

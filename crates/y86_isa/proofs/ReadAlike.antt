@@ -1,4 +1,4 @@
--- Two memories that agree on the fetched bytes of an instruction read alike there.
+-- If two memories agree on the fetched bytes of an instruction, it is read alike from both.
 use Rattle.std.proofs.Common.{◌≡◌, ℕ, ◌+◌, ◌^◌, ◌<◌, ◌≤◌, inl, inr, Bool, true, false, cond, List, length, Some, None, slice_get, refl, sym, ap, ◌∙◌, arith, add_assoc}
 use Rattle.std.proofs.lemmas.Bool.{leb-true, cases_lt}
 use Rattle.std.proofs.lemmas.Option.{slice_get_past, slice_get_within, slice_get-get_or, none-some}
@@ -41,7 +41,7 @@ unfolding constant_at
 constant_at-same memory other pc has true e = word_from-same memory other (pc + cond has 2 1) (e refl)
 constant_at-same memory other pc has false e = refl
 
--- the bytes behind the first are alike as far as the row goes
+-- the bytes after the first are alike, up to the length that the row gives
 abbrev Alike : List ℕ → List ℕ → ℕ → Row → Type 0
 Alike memory other pc r = (k : ℕ) → 0 < k → k < 1 + cond r.has_byte 1 0 + cond r.has_const 8 0 → byte_at other (pc + k) ≡ byte_at memory (pc + k)
 
@@ -78,7 +78,7 @@ lacks_alike : (memory other : List ℕ) (pc : ℕ) (r : Row) → Alike memory ot
 lacks_alike memory other pc r h =
     rw (field_a-same memory other pc r.has_byte (register_alike memory other pc r h), field_b-same memory other pc r.has_byte (register_alike memory other pc r h)) refl
 
--- a row of one byte asks for no agreement
+-- a row of one byte needs no agreement
 bare_alike : (memory other : List ℕ) (pc : ℕ) (r : Row) → r.has_byte ≡ false → r.has_const ≡ false → Alike memory other pc r
 bare_alike memory other pc r b c k some lt = absurd (omega (arith, rw (b, c) at lt))
 
@@ -102,7 +102,7 @@ same_first : (v : Variant) (memory other : List ℕ) (pc byte : ℕ) → SameFet
 same_first v memory other pc byte s e some =
     s.bytes pc (record { from = omega arith; to = rw e (omega arith); inside = slice_get_within memory pc byte e }) ∙ e
 
--- all bytes of an instruction that is whole are fetched
+-- all bytes of a whole instruction are fetched
 whole_alike : (v : Variant) (memory other : List ℕ) (pc byte : ℕ) → SameFetch v memory other pc → slice_get memory pc ≡ Some byte →
     is_instruction v (high_half byte) (low_half byte) ≡ true → pc + (row v (high_half byte)).length ≤ length memory →
     Alike memory other pc (row v (high_half byte))

@@ -76,7 +76,7 @@ const_of has true memory pc first second n size lt h zero_if =
 
 -- ---- the reading
 
--- an ifun that is written is one that the icode takes
+-- an ifun that is written is one that the icode accepts
 below : (top ifun : ℕ) → top ≤ 15 → ifun ≤ cond (top == 15) 0 top → ifun ≤ top
 below top ifun le h = grind (arith, nat_tests)
 
@@ -137,7 +137,7 @@ unfolding encoded
 fetched-encoded v i memory pc valid lt size held =
     by_row v i memory pc (row widest i.icode) (sym (row-widest v i.icode valid.known)) valid lt size held
 
--- an instruction has as many bytes as its row says
+-- an instruction's length is the one that its row gives
 pub length-encoded : (i : Instr) → length (encoded i) ≡ (row widest i.icode).length
 unfolding encoded
 length-encoded i =

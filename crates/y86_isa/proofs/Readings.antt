@@ -1,4 +1,4 @@
--- How an instruction reads, case by case, and what of the memory its reading depends on.
+-- How an instruction is read, case by case.
 use Rattle.std.proofs.Common.{◌≡◌, ℕ, ◌+◌, Bool, true, false, not, cond, nat_le, List, length, Option, Some, None, slice_get, refl}
 use Rattle.y86_base.specs.declared.parts.Variant.{Variant}
 use Rattle.y86_isa.specs.declared.fetch.Reading.{Reading}
@@ -17,7 +17,7 @@ pub data ReadsAs (v : Variant) (memory : List ℕ) (pc : ℕ) : Reading → Type
       nat_le (pc + (row v (high_half byte)).length) (length memory) ≡ true → lacks_register memory pc (row v (high_half byte)) ≡ false →
       ReadsAs v memory pc (record { error = false; icode = high_half byte; ifun = low_half byte })
 
--- the reading of a first byte inside, by its three tests
+-- the reading of a first byte inside memory, by its three tests
 abbrev reading_of : Bool → Bool → Bool → ℕ → ℕ → Reading
 reading_of begins whole lacks icode ifun =
     cond (not begins) invalid (cond (not whole) outside (cond lacks invalid (record { error = false; icode = icode; ifun = ifun })))

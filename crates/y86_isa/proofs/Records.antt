@@ -1,4 +1,4 @@
--- The record tells the whole step; the machine after; the i-th record; the normal form.
+-- The record gives the whole step; the machine after a step; the i-th record; the normal form.
 use Rattle.std.proofs.Common.{◌≡◌, ℕ, zero, suc, ◌<◌, Bool, true, false, cond, nat_lt, List, ◌++◌, Option, Some, IfSome, slice_get, refl, sym, ap, ◌∙◌, arith}
 use Rattle.std.specs.Option.{option_to_list}
 use Rattle.y86_base.specs.Registers.{with_register}
@@ -41,7 +41,7 @@ tells_case v m _ _ (goes e w) =
 pub record_tells : (v : Variant) (m : Machine) → IfSome (retired v m) (λ r. IsRecordOfStep m (advance v m) r)
 record_tells v m = tells_case v m (advance v m) (retired v m) (advances v m)
 
--- the machine after, where the instruction ends with AOK, and where not
+-- the machine after an instruction that ends with AOK, and after one that doesn't
 pub advance-goes : (v : Variant) (m : Machine) → is_aok m.stat ≡ true → is_aok (work v m).stat ≡ true → advance v m ≡ finished m (work v m)
 unfolding advance
 advance-goes v m e w = rw (e, w) refl

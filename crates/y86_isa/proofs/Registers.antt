@@ -1,4 +1,4 @@
--- A register behind one write, and behind both writes of a step.
+-- A register after one write, and after both writes of a step.
 use Rattle.std.proofs.Common.{◌≡◌, ℕ, ◌<◌, inl, inr, ◌==◌, cond, List, length, ap, ◌∙◌}
 use Rattle.std.proofs.lemmas.Bool.{eq-eqb, ne_eqb, cases_eq}
 use Rattle.y86_base.specs.Registers.{register, with_register}
@@ -13,7 +13,7 @@ register-after_write registers n word s size lt =
       | inr ne ↦ rw (ne_eqb s n ne) (register-with_register_other registers n s word ne)
     ]
 
--- that of valM wins
+-- the write of valM wins
 pub register-written_back : (registers : List ℕ) (dst_e val_e dst_m val_m s : ℕ) → length registers ≡ 15 → s < 15 →
     register (written_back registers dst_e val_e dst_m val_m) s ≡ cond (s == dst_m) val_m (cond (s == dst_e) val_e (register registers s))
 register-written_back registers dst_e val_e dst_m val_m s size lt =

@@ -1,4 +1,4 @@
--- What the columns of a row say of the work of its instruction.
+-- What the columns of a row imply for the work of its instruction.
 use Rattle.std.proofs.Common.{◌≡◌, ℕ, ◌<◌, Bool, true, false, not, ◌||◌, ◌==◌, List, length, refl}
 use Rattle.y86_base.specs.declared.parts.Variant.{Variant}
 use Rattle.y86_base.specs.declared.parts.Variant.TheVariants.{Base, Full}
@@ -23,7 +23,7 @@ dash_is FieldA a b h = cc
 dash_is FieldB a b h = cc
 dash_is Stack a b h = cc
 
--- where valE has no destination, it has none behind the condition
+-- if valE has no destination, it has none after the condition either
 pub none_late : (conditional cnd : Bool) (n : ℕ) → n ≡ 15 → destination_e conditional cnd n ≡ 15
 none_late true true n e = e
 none_late true false n e = refl
@@ -31,7 +31,7 @@ none_late false cnd n e = e
 
 -- ---- memory
 
--- an access at equal addresses, where there is one, has one error
+-- an access has the same error at equal addresses
 pub error_by : (a : MemoryColumn) (mem : List ℕ) (x y : ℕ) → (accesses a ≡ true → x ≡ y) → data_error mem x (is_load a) (is_store a) ≡ data_error mem y (is_load a) (is_store a)
 unfolding data_error
 error_by NoMem mem x y h = refl
@@ -40,7 +40,7 @@ error_by StoreP mem x y h = rw (h refl) refl
 error_by LoadE mem x y h = rw (h refl) refl
 error_by LoadA mem x y h = rw (h refl) refl
 
--- and reads one word
+-- and reads the same word
 pub read_by : (a : MemoryColumn) (mem : List ℕ) (x y : ℕ) → (accesses a ≡ true → x ≡ y) → data_read mem x (is_load a) ≡ data_read mem y (is_load a)
 unfolding data_read
 read_by NoMem mem x y h = refl
@@ -51,7 +51,7 @@ read_by LoadA mem x y h = rw (h refl) refl
 
 -- ---- the next PC
 
--- whether an instruction is followed by itself
+-- the next PC is the instruction's own: it isn't followed by another
 abbrev pub is_itself : NextPcColumn → Bool
 is_itself Itself = true
 is_itself Fall = false
@@ -59,11 +59,11 @@ is_itself Branch = false
 is_itself Target = false
 is_itself Loaded = false
 
--- of the icodes that have a row, halt alone has no next PC
+-- among the icodes that have a row, only halt has no next PC
 abbrev pub next_test : ℕ → Row → Bool
 next_test icode r = not (is_itself r.next) || (icode == 0)
 
--- and each row says so
+-- and each row agrees
 pub next_at : (v : Variant) (icode : ℕ) → icode < length (rows v) → next_test icode (row v icode) ≡ true
 next_at Base icode lt = row-numbered next_test Base refl icode lt
 next_at Full icode lt = row-numbered next_test Full refl icode lt

@@ -1,4 +1,4 @@
--- Facts that hold of each row of the instruction table: a test that computes at every row holds at each icode.
+-- Facts about every row of the instruction table: a test that computes to true at each row holds at each icode.
 use Rattle.std.proofs.Common.{◌≡◌, ℕ, zero, suc, ◌+◌, ◌<◌, ◌≤◌, Bool, true, cond, ◌&&◌, ◌||◌, nat_le, ◌==◌, List, [], ◌∷◌, unwrap_or, slice_get, length, refl, sym, ◌∙◌, subst, arith, add-zero, zero-add}
 use Rattle.std.specs.List.{list_all}
 use Rattle.std.proofs.lemmas.Option.{slice_get_past, unwrap_or-slice_get}
@@ -16,7 +16,7 @@ in_list p [] d h e i = e
 in_list p (r ∷ rs) d h e zero = (and_parts (p r) (list_all p rs) h).0
 in_list p (r ∷ rs) d h e (suc i) = in_list p rs d (and_parts (p r) (list_all p rs) h).1 e i
 
--- a test that holds of every row, that of dashes included, holds of the row of each icode
+-- a test that passes for every row, and for the row of dashes, passes for the row of each icode
 pub row-test : (p : Row → Bool) (v : Variant) → list_all p (rows v) ≡ true → p dash_row ≡ true → (icode : ℕ) → p (row v icode) ≡ true
 unfolding row
 row-test p v h e icode = in_list p (rows v) dash_row h e icode
@@ -29,7 +29,7 @@ pub row-unknown : (v : Variant) (icode : ℕ) → length (rows v) ≤ icode → 
 unfolding row
 row-unknown v icode le = past_rows (rows v) dash_row icode le
 
--- the rows of a variant are the first ones of the widest
+-- the rows of a variant are the first rows of the widest variant
 pub row-widest : (v : Variant) (icode : ℕ) → icode < length (rows v) → row v icode ≡ row widest icode
 unfolding row
 row-widest Base icode lt =
@@ -37,7 +37,7 @@ row-widest Base icode lt =
     ∙ (sym (get_or_append_left (rows Base) (iaddq ∷ []) dash_row icode lt) ∙ sym (unwrap_or-slice_get (rows Full) icode dash_row))
 row-widest Full icode lt = refl
 
--- the length of an instruction is that of its parts
+-- the length of an instruction is the sum of its parts
 abbrev sized : Row → Bool
 sized r = r.length == 1 + cond r.has_byte 1 0 + cond r.has_const 8 0
 
@@ -77,13 +77,13 @@ in_numbered p first (r ∷ rs) d h (suc i) lt =
     let next : first + suc i ≡ suc first + i = omega arith in
     rw next (in_numbered p (suc first) rs d (and_parts (p first r) (all_from p (suc first) rs) h).1 i (omega arith))
 
--- a test that holds of every icode that has a row, and of that row
+-- a test that passes for each icode with its row passes for this icode
 pub row-numbered : (p : ℕ → Row → Bool) (v : Variant) → all_from p 0 (rows v) ≡ true → (icode : ℕ) → icode < length (rows v) → p icode (row v icode) ≡ true
 unfolding row
 row-numbered p v h icode lt = let P : ℕ → Type 0 = λ i. p i (unwrap_or (slice_get (rows v) icode) dash_row) ≡ true in
     subst P (zero-add icode) (in_numbered p 0 (rows v) dash_row h icode lt)
 
--- where valM has a destination, valE has none but %rsp
+-- if valM has a destination, valE has none but %rsp
 abbrev one_field : Row → Bool
 one_field r = is_dash r.dst_m || is_dash r.dst_e || is_stack r.dst_e
 

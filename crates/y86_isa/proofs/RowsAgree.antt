@@ -1,4 +1,4 @@
--- The columns of each row agree: closed tests, and what they say.
+-- The columns of each row agree: tests that compute to true, and what they mean.
 use Rattle.std.proofs.Common.{◌≡◌, ℕ, Bool, true, false, not, ◌&&◌, ◌||◌, refl}
 use Rattle.std.specs.List.{list_all}
 use Rattle.std.proofs.lemmas.Bool.{and_parts}
@@ -46,7 +46,7 @@ each : (v : Variant) →
 each Base = (refl, refl, refl, refl)
 each Full = (refl, refl, refl, refl)
 
--- what an implication says
+-- using an implication
 
 says : (a b : Bool) → implies a b ≡ true → a ≡ true → b ≡ true
 says true b h e = h

@@ -1,4 +1,4 @@
--- Runs and their records: no step, one step more, a machine that has stopped.
+-- Runs and their records: no step, one more step, a machine that has stopped.
 use Rattle.std.proofs.Common.{◌≡◌, ◌≢◌, ℕ, zero, suc, ◌+◌, ◌<◌, ◌≤◌, ◌⊎◌, inl, inr, Bool, true, false, cond, List, [], ◌++◌, length, Some, None, refl, sym, ap, ◌∙◌, arith, add-one, append_assoc, append-nil, length-append}
 use Rattle.std.specs.Option.{option_to_list}
 use Rattle.y86_base.specs.declared.parts.Stat.{Stat}
@@ -39,7 +39,7 @@ pub retired-stopped : (v : Variant) (m : Machine) → is_aok m.stat ≡ false �
 unfolding retired
 retired-stopped v m h = rw h refl
 
--- one that goes on leaves one
+-- a machine that goes on leaves one
 pub retired-going : (v : Variant) (m : Machine) → is_aok m.stat ≡ true → retired v m ≡ Some (step v m).1
 unfolding retired
 retired-going v m h = rw h refl
@@ -117,7 +117,7 @@ length-records_from v m (suc n) =
       | inr e ↦ omega (arith, ap length (records_from-stopped v m (suc n) e))
     ]
 
--- with fewer records than steps, the run stopped at the step behind the last record
+-- if there are fewer records than steps, the run stopped at the step after the last record
 pub stopped-from_few : (v : Variant) (m : Machine) (n : ℕ) → length (records_from v m n) < n → is_aok (run_from v m (length (records_from v m n))).stat ≡ false
 stopped-from_few v m zero h = absurd (omega arith)
 stopped-from_few v m (suc n) h =
@@ -139,7 +139,7 @@ run_stays v image r (suc d) off =
     ap (run v image) more
     ∙ (run_from-last v (start image) (r + d) ∙ (advance-stopped v (run v image (r + d)) (ap (λ m. is_aok m.stat) stays ∙ off) ∙ stays))
 
--- and it leaves no record more
+-- and it leaves no further record
 pub records_stay : (v : Variant) (image : List ℕ) (r d : ℕ) → is_aok (run v image r).stat ≡ false → records v image (r + d) ≡ records v image r
 records_stay v image r zero off = ap (records v image) (omega arith)
 records_stay v image r (suc d) off =

@@ -1,4 +1,4 @@
--- A step, case by case, and what it leaves as it was.
+-- A step, case by case, and what it leaves unchanged.
 use Rattle.std.proofs.Common.{◌≡◌, ℕ, ◌+◌, ◌<◌, ◌≤◌, ◌⊎◌, inl, inr, Bool, true, false, cond, List, length, Option, Some, None, slice_get, refl}
 use Rattle.std.proofs.lemmas.Bool.{cases_lt}
 use Rattle.y86_base.specs.declared.parts.Variant.{Variant}
@@ -69,6 +69,6 @@ memory_case v m _ _ address (stays e) h = refl
 memory_case v m _ _ address (stops e w) h = refl
 memory_case v m _ _ address (goes e w) h = beside_store m.mem (work v m).store address (λ i. h (rw w i))
 
--- beside the bytes of the store of the record, the memory stays
+-- outside the bytes of the record's store, memory is unchanged
 pub mem-advance : (v : Variant) (m : Machine) (address : ℕ) → (IsStoredBy (retired v m) address → ⊥) → slice_get (advance v m).mem address ≡ slice_get m.mem address
 mem-advance v m address h = memory_case v m (advance v m) (retired v m) address (advances v m) h

@@ -1,4 +1,4 @@
--- What a reading can be, and the register fields of what is fetched.
+-- Which readings are possible, and the register fields of what is fetched.
 use Rattle.std.proofs.Common.{◌≡◌, ◌≢◌, ℕ, ◌<◌, ◌≤◌, inl, inr, Bool, true, false, ◌&&◌, ◌==◌, List, length, refl, arith}
 use Rattle.std.proofs.lemmas.Bool.{and_parts, or_parts, eqb-false, ltb-true, leb-true}
 use Rattle.y86_base.specs.declared.parts.Variant.{Variant}

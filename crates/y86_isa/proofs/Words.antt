@@ -1,4 +1,4 @@
--- What a machine computes stays within the sizes of its words.
+-- What a machine computes fits its words, so no number exceeds 64 bits.
 use Rattle.std.proofs.Common.{◌≡◌, ℕ, zero, suc, ◌+◌, ◌%◌, ◌^◌, ◌<◌, ◌≤◌, inl, inr, Bool, true, false, cond, nat_lt, nat_le, ◌==◌, List, length, take, drop, get_or, Option, Some, None, unwrap_or, All, refl, ◌∙◌, arith}
 use Rattle.std.specs.Prelude.{slice_set}
 use Rattle.std.specs.Int.{from_le_bytes, w64}

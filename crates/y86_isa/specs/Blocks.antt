@@ -1,5 +1,5 @@
 -- What the parts of a processor compute, on numbers and lists of bytes (CS:APP 3e, sections 4.1 and 4.3.2 to 4.3.4).
--- An address is taken modulo 2^64; a truth that a block takes, such as need_regids, is one of its arguments.
+-- Addresses are modulo 2^64. Truths such as need_regids are arguments, so that a datapath can pass its own signals.
 use Rattle.std.specs.Prelude.{ℕ, ◌+◌, ◌-◌, ◌/◌, ◌%◌, ◌^◌, Bool, true, false, ◌&&◌, ◌||◌, not, nat_le, ◌==◌, List, [], ◌∷◌, length, map, slice_get, Option, Some, None, unwrap_or, is_none, if◌then◌else◌, ℤ, pos, ◌+ℤ◌, ◌-ℤ◌, neg_ℤ, int_le, int_lt, bit_and, bit_xor}
 use Rattle.std.specs.Int.{from_le_bytes, w64, cast_signed}
 use Rattle.y86_base.specs.Image.{word_at, put_word}
@@ -38,7 +38,7 @@ high_half byte = byte / 16
 abbrev pub low_half : ℕ → ℕ
 low_half byte = byte % 16
 
--- rA and rB: the halves of the byte behind the first, where there is a register byte
+-- rA and rB: the halves of the byte after the first, if there is a register byte
 unfoldable pub field_a : List ℕ → ℕ → Bool → ℕ
 field_a memory pc need_regids = if need_regids then high_half (byte_at memory (pc + 1)) else no_register
 
@@ -50,31 +50,31 @@ unfoldable pub word_from : List ℕ → ℕ → ℕ
 word_from memory address =
     from_le_bytes w64 (map (λ k. byte_at memory (address + k)) (0 ∷ 1 ∷ 2 ∷ 3 ∷ 4 ∷ 5 ∷ 6 ∷ 7 ∷ []))
 
--- valC: the constant behind the first byte and the register byte
+-- valC: the constant after the first byte and the register byte
 unfoldable pub constant_at : List ℕ → ℕ → Bool → Bool → ℕ
 constant_at memory pc need_regids need_valC =
     if need_valC then word_from memory (pc + (if need_regids then 2 else 1)) else 0
 
--- valP: the address behind the instruction
+-- valP: the address after the instruction
 unfoldable pub behind : ℕ → Bool → Bool → ℕ
 behind pc need_regids need_valC =
     (pc + 1 + (if need_regids then 1 else 0) + (if need_valC then 8 else 0)) % 2 ^ 64
 
--- an instruction that isn't all inside reads as a nop with an address error (imem_error), and one that is invalid has an
--- icode of its own
+-- an instruction that isn't all inside memory reads as a nop with an address error (imem_error); an invalid instruction
+-- has an icode of its own
 abbrev pub outside : Reading
 outside = record { error = true; icode = inop; ifun = 0 }
 
 abbrev pub invalid : Reading
 invalid = record { error = false; icode = iinvalid; ifun = 0 }
 
--- a register field that is used names no register
+-- a register field that the instruction uses names no register
 abbrev pub lacks_register : List ℕ → ℕ → Row → Bool
 lacks_register memory pc r =
     (r.uses_a && (field_a memory pc r.has_byte == no_register)) || (r.uses_b && (field_b memory pc r.has_byte == no_register))
 
--- what the bytes at a PC read as, by the first of them. The first case that applies decides: it is outside; it begins no
--- instruction; a later byte is outside; a register field that is used names no register
+-- how the bytes at a PC are read, by the first of them. The first case that applies decides: the first byte is outside;
+-- it begins no instruction; a later byte is outside; a register field that the instruction uses names no register
 abbrev pub reading_by_first : Variant → List ℕ → ℕ → Option ℕ → Reading
 reading_by_first v memory pc None = outside
 reading_by_first v memory pc (Some byte) =
@@ -89,7 +89,7 @@ reading_by_first v memory pc (Some byte) =
 unfoldable pub reading : Variant → List ℕ → ℕ → Reading
 reading v memory pc = reading_by_first v memory pc (slice_get memory pc)
 
--- the fields of an instruction that was read, where its row says which it has
+-- the fields of an instruction that was read, by its row, which says which fields it has
 abbrev pub fetched_by : List ℕ → ℕ → Reading → Row → Fetched
 fetched_by memory pc read r =
     record {
@@ -108,7 +108,7 @@ fetched v memory pc =
     let read = reading v memory pc in
     fetched_by memory pc read (row v read.icode)
 
--- the status as far as what was fetched decides it (the signal Stat of section 4.3.4)
+-- the status so far, from what was fetched alone (the signal Stat of section 4.3.4)
 abbrev pub fetch_status : Bool → ℕ → Stat
 fetch_status error icode =
     if error then Adr
@@ -126,7 +126,7 @@ register_number Stack r_a r_b = stack_pointer
 
 -- ---- execute (figure 4.29)
 
--- aluA and aluB; where the table has a dash, 0
+-- aluA and aluB; 0 if the table has a dash
 abbrev pub operand_a : AluAColumn → ℕ → ℕ → ℕ
 operand_a NoA val_a val_c = 0
 operand_a ValA val_a val_c = val_a
@@ -147,14 +147,14 @@ alu_value f a b =
     else (if f == 2 then bit_and b a
     else (if f == 3 then bit_xor b a else 0)))
 
--- the number that a word stands for in two's complement, and whether a number is one of a word
+-- the number that a word represents in two's complement, and whether a word can represent a number
 abbrev pub signed : ℕ → ℤ
 signed word = cast_signed w64 word
 
 abbrev pub fits_word : ℤ → Bool
 fits_word n = int_le (neg_ℤ (pos (2 ^ 63))) n && int_lt n (pos (2 ^ 63))
 
--- signed overflow, of a sum or a difference alone
+-- signed overflow; only a sum or a difference overflows
 abbrev pub alu_overflows : ℕ → ℕ → ℕ → Bool
 alu_overflows f a b =
     if f == 0 then not (fits_word (signed b +ℤ signed a))
@@ -170,7 +170,7 @@ alu_flags f a b = condition_codes (alu_value f a b) (alu_overflows f a b)
 abbrev pub alu : ℕ → ℕ → ℕ → AluOut
 alu f a b = record { val = alu_value f a b; flags = alu_flags f a b }
 
--- the function of the ALU: the ifun where the row selects by it, else addition
+-- the function of the ALU: the ifun if the row selects by it, else addition
 abbrev pub alu_function : Bool → ℕ → ℕ
 alu_function selects ifun = if selects then ifun else 0
 
@@ -182,11 +182,12 @@ exclusive_or a b = (a && not b) || (not a && b)
 abbrev pub is_less : Flags → Bool
 is_less flags = exclusive_or flags.sf flags.of
 
--- the condition codes behind the ALU: set by it, or as before
+-- the condition codes after the ALU: set by it, or as before
 abbrev pub flags_after : Bool → ℕ → ℕ → ℕ → Flags → Flags
 flags_after sets f a b before = if sets then alu_flags f a b else before
 
--- the condition of a jump or a move (figure 3.15): unconditional, le, l, e, ne, ge, g by their ifun, and false for any other number
+-- the condition of a jump or a move (figure 3.15): unconditional, le, l, e, ne, ge, g by their ifun; false for any
+-- other
 unfoldable pub condition : ℕ → Flags → Bool
 condition f flags =
     if f == 0 then true
@@ -197,7 +198,7 @@ condition f flags =
     else (if f == 5 then not (is_less flags)
     else (if f == 6 then not (is_less flags) && not flags.zf else false))))))
 
--- the destination of valE, which an unmet condition takes away
+-- the destination of valE; a condition that isn't met removes it
 abbrev pub destination_e : Bool → Bool → ℕ → ℕ
 destination_e conditional cnd raw = if conditional && not cnd then no_register else raw
 
@@ -217,7 +218,7 @@ is_load StoreP = false
 is_load LoadE = true
 is_load LoadA = true
 
--- the address of the data, and 0 where there is no access
+-- the address of the data; 0 if there is no access
 abbrev pub data_address : MemoryColumn → ℕ → ℕ → ℕ
 data_address NoMem val_a val_e = 0
 data_address StoreA val_a val_e = val_e
@@ -225,7 +226,7 @@ data_address StoreP val_a val_e = val_e
 data_address LoadE val_a val_e = val_e
 data_address LoadA val_a val_e = val_a
 
--- the word that is stored, and 0 where none is
+-- the word to store; 0 if there is none
 abbrev pub data_word : MemoryColumn → ℕ → ℕ → ℕ
 data_word NoMem val_a val_p = 0
 data_word StoreA val_a val_p = val_a
@@ -233,15 +234,15 @@ data_word StoreP val_a val_p = val_p
 data_word LoadE val_a val_p = 0
 data_word LoadA val_a val_p = 0
 
--- dmem_error: the word is to be read or written, and not all of it is inside
+-- dmem_error: a word is to be read or written, and not all of it is inside memory
 unfoldable pub data_error : List ℕ → ℕ → Bool → Bool → Bool
 data_error memory address reads writes = (reads || writes) && is_none (word_at memory address)
 
--- the word that is read, and 0 where none is
+-- the word that is read; 0 if there is none
 unfoldable pub data_read : List ℕ → ℕ → Bool → ℕ
 data_read memory address reads = if reads then unwrap_or (word_at memory address) 0 else 0
 
--- the store that is done, and the memory after it
+-- the store that takes place, and the memory after it
 unfoldable pub data_store : ℕ → ℕ → Bool → Bool → Option Store
 data_store address word writes error =
     if writes && not error then Some (record { addr = address; word = word }) else None
@@ -252,7 +253,8 @@ stored memory (Some store) = put_word memory store.addr store.word
 
 -- ---- write back (figure 4.28)
 
--- the registers after both destinations are written: dstE gets valE, then dstM gets valM, which wins where they are one
+-- the registers after both destinations are written: dstE gets valE, then dstM gets valM, which wins if they are the
+-- same
 abbrev pub written_back : List ℕ → ℕ → ℕ → ℕ → ℕ → List ℕ
 written_back registers dst_e val_e dst_m val_m = with_register (with_register registers dst_e val_e) dst_m val_m
 

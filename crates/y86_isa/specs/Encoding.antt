@@ -1,4 +1,4 @@
--- Instructions as their fields, and the bytes that stand for them (CS:APP 3e, figures 4.2 and 4.3).
+-- Instructions as their fields, and the bytes that encode them (CS:APP 3e, figures 4.2 and 4.3).
 use Rattle.std.specs.Prelude.{◌≡◌, ℕ, ◌+◌, ◌*◌, ◌%◌, ◌^◌, ◌<◌, ◌≤◌, Bool, false, MatchBool, ◌==◌, List, [], ◌∷◌, ◌++◌, length, take, drop, if◌then◌else◌}
 use Rattle.std.specs.Int.{to_le_bytes, w64}
 use Rattle.y86_base.specs.declared.parts.Variant.{Variant}
@@ -12,11 +12,11 @@ use Rattle.y86_isa.specs.Table.{no_register, rows, row}
 abbrev pub widest : Variant
 widest = Full
 
--- the largest ifun that an instruction is written with: 0 where the icode ignores it
+-- the largest ifun that an instruction is written with: 0 if the icode ignores it
 abbrev pub written_top : Row → ℕ
 written_top r = if r.ifun_top == 15 then 0 else r.ifun_top
 
--- a register field that is used names a register, and one that isn't says no register
+-- a register field that the instruction uses names a register; any other field is 15
 abbrev pub NamesRegister : Bool → ℕ → Type 0
 NamesRegister used field = MatchBool used (field < no_register) (field ≡ no_register)
 
@@ -44,7 +44,7 @@ encoded i = encoded_by (row widest i.icode) i
 abbrev pub Holds : List ℕ → ℕ → List ℕ → Type 0
 Holds memory address bytes = take (length bytes) (drop address memory) ≡ bytes
 
--- what an instruction at a PC is split to
+-- the fields into which an instruction at a PC is split
 abbrev pub fields_of : Instr → ℕ → Fetched
 fields_of i pc =
     record { error = false; icode = i.icode; ifun = i.ifun; r_a = i.r_a; r_b = i.r_b; val_c = i.val_c; val_p = (pc + length (encoded i)) % 2 ^ 64 }

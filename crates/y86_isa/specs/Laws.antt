@@ -1,4 +1,4 @@
--- What a step may change, in the words of the subject.
+-- What a step may change, in the book's terms.
 use Rattle.std.specs.Prelude.{◌≡◌, ◌≢◌, ℕ, ◌+◌, ◌%◌, ◌^◌, ◌<◌, ◌≤◌, ◌⊎◌, true, false, List, length, Some, option_map, IfSome, if◌then◌else◌}
 use Rattle.y86_base.specs.Image.{word_at}
 use Rattle.y86_base.specs.Registers.{register}
@@ -16,7 +16,7 @@ use Rattle.y86_isa.specs.Table.{inop, iinvalid, no_register, stack_pointer, rows
 use Rattle.y86_isa.specs.RowTests.{has_operand_a, accesses, next_is_branch, next_is_val_m}
 use Rattle.y86_isa.specs.Step.{advance, retired}
 
--- the work of an instruction, by one equation for each value that its row and the machine give
+-- the work of an instruction, as one equation for each value that its row and the machine determine
 pub record FollowsRow (r : Row) (m : Machine) (w : Work) : Type 0 where
   pub src_a : w.src_a ≡ register_number r.src_a w.r_a w.r_b
   pub src_b : w.src_b ≡ register_number r.src_b w.r_a w.r_b
@@ -46,7 +46,7 @@ pub record FollowsFetch (f : Fetched) (w : Work) : Type 0 where
   pub val_c : w.val_c ≡ f.val_c
   pub val_p : w.val_p ≡ f.val_p
 
--- beside %rsp, at most one register differs
+-- at most one register other than %rsp differs
 pub record ChangesOneRegister (old new : List ℕ) : Type 0 where
   pub changed : ℕ
   pub others : (number : ℕ) → number ≢ stack_pointer → number ≢ changed → register new number ≡ register old number
@@ -55,13 +55,13 @@ pub record ChangesOneRegister (old new : List ℕ) : Type 0 where
 abbrev pub KeepsFlags : Variant → Machine → Type 0
 KeepsFlags v m = IfSome (retired v m) (λ r. (row v r.icode).sets_flags ≡ false → (advance v m).flags ≡ m.flags)
 
--- behind an instruction that ends with AOK and falls through by its row, the PC is at the next one
+-- after an instruction that ends with AOK and falls through by its row, the PC is at the next instruction
 abbrev pub FallsThrough : Variant → Machine → Type 0
 FallsThrough v m =
     IfSome (retired v m)
     (λ r. r.stat ≡ Aok → (row v r.icode).next ≡ Fall → (advance v m).pc ≡ (m.pc + (row v r.icode).length) % 2 ^ 64)
 
--- a record tells the whole step from one machine to the next
+-- a record determines the whole step from one machine to the next
 pub record IsRecordOfStep (m after : Machine) (r : Rec) : Type 0 where
   pub pc : r.pc ≡ m.pc
   pub stat : after.stat ≡ r.stat
@@ -69,14 +69,14 @@ pub record IsRecordOfStep (m after : Machine) (r : Rec) : Type 0 where
   pub mem : after.mem ≡ stored m.mem r.store
   pub regs : after.regs ≡ written_back m.regs r.dst_e r.val_e r.dst_m r.val_m
 
--- what a reading can be: with an error it is a nop; else it is the icode of an invalid instruction, or one that has a row with an
--- ifun that it takes
+-- the possible readings: with an error it is a nop; else it has the icode of an invalid instruction, or an icode with a
+-- row and an ifun that the icode accepts
 pub record IsReading (v : Variant) (read : Reading) : Type 0 where
   pub outside : read.error ≡ true → (read.icode ≡ inop) × (read.ifun ≡ 0)
   pub known : (read.icode < length (rows v)) ⊎ ((read.icode ≡ iinvalid) × (read.ifun ≡ 0))
   pub ifun : read.ifun ≤ (row v read.icode).ifun_top
 
--- register fields that are used are registers, and without a register byte both are 15
+-- register fields that the instruction uses are registers; without a register byte both are 15
 pub record IsFields (r : Row) (f : Fetched) : Type 0 where
   pub used_a : r.uses_a ≡ true → f.r_a < no_register
   pub used_b : r.uses_b ≡ true → f.r_b < no_register
@@ -91,7 +91,7 @@ pub record SameButDone (r s : Rec) : Type 0 where
   pub flags : s.flags ≡ r.flags
   pub stat : s.stat ≡ r.stat
 
--- pushq of %rsp stores its value from before, and popq to %rsp leaves the word that was loaded (practice problems 4.7 and 4.8)
+-- pushq %rsp stores the old value, and popq %rsp leaves the word that was loaded (practice problems 4.7 and 4.8)
 abbrev pub PushStoresOld : Variant → Machine → Type 0
 PushStoresOld v m =
     IfSome (retired v m)

@@ -28,15 +28,15 @@ start_flags = record { zf = true; sf = false; of = false }
 abbrev pub start : List ℕ → Machine
 start memory = record { regs = start_registers; flags = start_flags; pc = 0; stat = Aok; mem = memory }
 
--- a destination, and the word that it gets; one that is no register is 15, and gets 0
+-- a destination, and the word that it gets; a destination that is no register is 15, and its word 0
 abbrev pub written_number : ℕ → ℕ
 written_number number = if nat_lt number no_register then number else no_register
 
 abbrev pub written_word : ℕ → ℕ → ℕ
 written_word number word = if nat_lt number no_register then word else 0
 
--- the normal form of a record. An instruction that ends with AOK has its destinations in one form; one that ends with
--- another status has neither destinations nor a store
+-- the normal form of a record. If an instruction ends with AOK, 15 is the only destination that is no register; if it
+-- ends with another status, it has neither destinations nor a store
 abbrev pub normal : Rec → Rec
 normal r =
     if is_aok r.stat then

@@ -1,4 +1,4 @@
--- What the columns of a row say, as tests, and how the columns of one row agree.
+-- Tests on the columns of a row, and how the columns of one row agree.
 use Rattle.std.specs.Prelude.{◌≡◌, Bool, true, false, not, ◌&&◌, ◌||◌}
 use Rattle.y86_isa.specs.declared.columns.Row.{Row}
 use Rattle.y86_isa.specs.declared.columns.RegisterColumn.{RegisterColumn}
@@ -39,13 +39,13 @@ is_stack FieldA = false
 is_stack FieldB = false
 is_stack Stack = true
 
--- a register field that the column names is one that the instruction uses
+-- if the column names a register field, the instruction uses that field
 abbrev pub is_used : Row → RegisterColumn → Bool
 is_used r field = (not (is_field_a field) || r.uses_a) && (not (is_field_b field) || r.uses_b)
 
 -- ---- the ALU
 
--- there is a first operand, a second one; it is valA, valB
+-- there is a first operand; a second one; the first is valA; the second is valB
 abbrev pub has_operand_a : AluAColumn → Bool
 has_operand_a NoA = false
 has_operand_a ValA = true
@@ -80,7 +80,7 @@ accesses StoreP = true
 accesses LoadE = true
 accesses LoadA = true
 
--- valA is stored, valP is stored, the address is valA, the address is valE
+-- valA is stored; valP is stored; the address is valA; the address is valE
 abbrev pub stores_val_a : MemoryColumn → Bool
 stores_val_a NoMem = false
 stores_val_a StoreA = true
@@ -134,15 +134,15 @@ select_a_is_val_a r = stores_val_a r.memory || address_is_val_a r.memory
 
 -- ---- the columns of one row
 
--- valE is used only where the ALU has operands, and it has both or none
+-- valE is used only if the ALU has operands, and it has both or none
 pub record OperandsAgree (r : Row) : Type 0 where
   pub destination : is_dash r.dst_e ≡ false → has_operand_a r.alu_a ≡ true
   pub flags : r.sets_flags ≡ true → has_operand_a r.alu_a ≡ true
   pub address : address_is_val_e r.memory ≡ true → has_operand_a r.alu_a ≡ true
   pub both : has_operand_a r.alu_a ≡ true → has_operand_b r.alu_b ≡ true
 
--- valA and valB are taken only from a source; what stores valA doesn't compute with it; where valP is carried in the place of valA,
--- there is no source A
+-- valA and valB are used only if they have a source; an instruction that stores valA doesn't compute with it; if valP
+-- is carried in the place of valA, there is no source A
 pub record SourcesAgree (r : Row) : Type 0 where
   pub alu_a : operand_is_val_a r.alu_a ≡ true → is_dash r.src_a ≡ false
   pub alu_b : operand_is_val_b r.alu_b ≡ true → is_dash r.src_b ≡ false
@@ -151,8 +151,8 @@ pub record SourcesAgree (r : Row) : Type 0 where
   pub no_source : select_a_is_val_p r ≡ true → is_dash r.src_a ≡ true
   pub stored : stores_val_a r.memory ≡ true → operand_is_val_a r.alu_a ≡ false
 
--- a conditional jump computes nothing and accesses no memory, and the PC is loaded only where a word is loaded; an access sets no
--- flags; valM has a destination only where a word is loaded
+-- a conditional jump computes nothing and accesses no memory; the PC is loaded only if a word is loaded; an access sets
+-- no flags; valM has a destination only if a word is loaded
 pub record AccessesAgree (r : Row) : Type 0 where
   pub branch_operand : next_is_branch r.next ≡ true → has_operand_a r.alu_a ≡ false
   pub branch_access : next_is_branch r.next ≡ true → accesses r.memory ≡ false
@@ -160,7 +160,7 @@ pub record AccessesAgree (r : Row) : Type 0 where
   pub flags : accesses r.memory ≡ true → r.sets_flags ≡ false
   pub destination : is_dash r.dst_m ≡ false → is_load r.memory ≡ true
 
--- a register field that a column names is one that the instruction uses, and a field that is used is in the register byte
+-- if a column names a register field, the instruction uses it; a field that it uses is in the register byte
 pub record FieldsAgree (r : Row) : Type 0 where
   pub src_a : is_used r r.src_a ≡ true
   pub src_b : is_used r r.src_b ≡ true

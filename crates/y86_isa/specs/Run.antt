@@ -45,8 +45,8 @@ run v image n = run_from v (start image) n
 abbrev pub records : Variant → List ℕ → ℕ → List Rec
 records v image n = records_from v (start image) n
 
--- how many bytes from the PC on an instruction fetches, those outside counted too: none where its first byte is outside,
--- that byte alone where it begins no instruction, else as many as its row says
+-- how many bytes from the PC on an instruction fetches, also counting those outside: none if its first byte is outside,
+-- only that byte if it begins no instruction, else the length that its row gives
 abbrev pub count_by_first : Variant → Option ℕ → ℕ
 count_by_first v None = 0
 count_by_first v (Some byte) = if is_instruction v (high_half byte) (low_half byte) then (row v (high_half byte)).length else 1
@@ -54,13 +54,13 @@ count_by_first v (Some byte) = if is_instruction v (high_half byte) (low_half by
 abbrev pub fetched_count : Variant → List ℕ → ℕ → ℕ
 fetched_count v memory pc = count_by_first v (slice_get memory pc)
 
--- the address is that of a byte that the instruction at the PC fetches
+-- the instruction at the PC fetches the byte at this address
 pub record IsFetched (v : Variant) (memory : List ℕ) (pc address : ℕ) : Type 0 where
   pub from : pc ≤ address
   pub to : address < pc + fetched_count v memory pc
   pub inside : address < length memory
 
--- a memory of the same size has the same bytes where the instruction at the PC is fetched
+-- another memory of the same size has the same bytes at the addresses that the instruction at the PC fetches
 pub record SameFetch (v : Variant) (memory other : List ℕ) (pc : ℕ) : Type 0 where
   pub sized : IsSize (length memory)
   pub size : length other ≡ length memory

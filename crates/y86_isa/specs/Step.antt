@@ -9,7 +9,7 @@ use Rattle.y86_isa.specs.Blocks.{written_back, stored}
 use Rattle.y86_isa.specs.Machine.{is_aok, normal}
 use Rattle.y86_isa.specs.Work.{work}
 
--- write back and PC update, where the instruction ends with AOK
+-- write back and PC update, if the instruction ends with AOK
 abbrev pub finished : Machine → Work → Machine
 finished m w =
     record {
@@ -20,7 +20,7 @@ finished m w =
       mem = stored m.mem w.store;
     }
 
--- the machine after an instruction: with another status than AOK, all but the status stays
+-- the machine after an instruction: if its status isn't AOK, only the status changes
 abbrev pub machine_after : Machine → Work → Machine
 machine_after m w = if is_aok w.stat then finished m w else record m { stat = w.stat }
 
@@ -54,6 +54,6 @@ step v m = (machine_after m (work v m), record_of m (work v m))
 unfoldable pub advance : Variant → Machine → Machine
 advance v m = if is_aok m.stat then (step v m).0 else m
 
--- the record of that step, and none where the machine has stopped
+-- the record of that step; none if the machine has stopped
 unfoldable pub retired : Variant → Machine → Option Rec
 retired v m = if is_aok m.stat then Some (step v m).1 else None

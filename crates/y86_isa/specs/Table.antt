@@ -1,4 +1,4 @@
--- The instruction table of Y86-64 (CS:APP 3e, figures 4.2, 4.3 and 4.18 to 4.21; iaddq is that of exercises 4.51 and 4.52).
+-- The instruction table of Y86-64 (CS:APP 3e, figures 4.2, 4.3 and 4.18 to 4.21; iaddq from exercises 4.51 and 4.52).
 use Rattle.std.specs.Prelude.{ℕ, Bool, true, false, ◌&&◌, nat_lt, nat_le, List, [], ◌∷◌, ◌++◌, length, slice_get, unwrap_or}
 use Rattle.y86_base.specs.declared.parts.Variant.{Variant}
 use Rattle.y86_base.specs.declared.parts.Variant.TheVariants.{Base, Full}
@@ -14,18 +14,18 @@ use Rattle.y86_isa.specs.declared.columns.MemoryColumn.TheVariants.{NoMem, Store
 use Rattle.y86_isa.specs.declared.columns.NextPcColumn.{NextPcColumn}
 use Rattle.y86_isa.specs.declared.columns.NextPcColumn.TheVariants.{Itself, Fall, Branch, Target, Loaded}
 
--- the icodes that other definitions name, as in figure 4.26; the others stand in the table alone
+-- the icodes that other definitions name, as in figure 4.26; the others appear only in the table
 abbrev pub ihalt : ℕ
 ihalt = 0
 
 abbrev pub inop : ℕ
 inop = 1
 
--- the icode that stands for an invalid instruction: no instruction has it
+-- the icode of an invalid instruction: no instruction has it
 abbrev pub iinvalid : ℕ
 iinvalid = 15
 
--- the number that stands for no register, and that of %rsp (figures 4.4 and 4.26)
+-- the number that means no register, and the number of %rsp (figures 4.4 and 4.26)
 abbrev pub no_register : ℕ
 no_register = 15
 
@@ -34,7 +34,8 @@ stack_pointer = 4
 
 -- ---- the words of the table
 
--- what stands behind the first byte (figure 4.2): nothing, the register byte, an 8-byte constant, or both; so long is the instruction
+-- what follows the first byte (figure 4.2): nothing, the register byte, an 8-byte constant, or both; it determines the
+-- length
 record Layout : Type 0 where
   bytes : ℕ
   has_byte : Bool
@@ -69,14 +70,14 @@ rB = record { a = false; b = true }
 abbrev rA_rB : Used
 rA_rB = record { a = true; b = true }
 
--- the ifuns that an icode takes: any, as it ignores them, or those up to a number
+-- the ifuns that an icode accepts: any, as it ignores them, or those up to a number
 abbrev any : ℕ
 any = 15
 
 abbrev upto : ℕ → ℕ
 upto n = n
 
--- the destination of valE: always, or where the condition holds
+-- the destination of valE: always, or only if the condition holds
 record Destination : Type 0 where
   field : RegisterColumn
   conditional : Bool
@@ -160,6 +161,6 @@ dash_row =
 unfoldable pub row : Variant → ℕ → Row
 row v icode = unwrap_or (slice_get (rows v) icode) dash_row
 
--- does a first byte begin an instruction: its icode has a row, and its ifun is one that the icode takes
+-- a first byte begins an instruction: its icode has a row, and the icode accepts its ifun
 abbrev pub is_instruction : Variant → ℕ → ℕ → Bool
 is_instruction v icode ifun = nat_lt icode (length (rows v)) && nat_le ifun (row v icode).ifun_top

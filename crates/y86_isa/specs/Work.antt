@@ -1,4 +1,4 @@
--- One instruction, through all that it reads and computes (CS:APP 3e, section 4.3.1 and figures 4.18 to 4.21).
+-- One instruction, with all that it reads and computes (CS:APP 3e, section 4.3.1 and figures 4.18 to 4.21).
 use Rattle.std.specs.Prelude.{ℕ, List, if◌then◌else◌}
 use Rattle.y86_base.specs.Registers.{register}
 use Rattle.y86_base.specs.declared.parts.Flags.{Flags}
@@ -28,7 +28,7 @@ decoded registers r f =
       val_b = register registers src_b;
     }
 
--- execute (figure 4.29): the ALU on the row's operands; the condition is that of the flags before
+-- execute (figure 4.29): the ALU on the row's operands; the condition is evaluated on the flags before the instruction
 abbrev pub executed : Flags → Row → Fetched → Decoded → Executed
 executed before r f d =
     let function = alu_function r.selects f.ifun in
@@ -42,7 +42,7 @@ executed before r f d =
       dst_e = destination_e r.conditional cnd d.raw_dst_e;
     }
 
--- the access to memory (figure 4.30): the word that is read, or the store, which is done only inside memory
+-- the access to memory (figure 4.30): the word that is read, or the store, which takes place only inside memory
 abbrev pub accessed : List ℕ → Row → Fetched → ℕ → ℕ → Accessed
 accessed memory r f val_a val_e =
     let address = data_address r.memory val_a val_e in

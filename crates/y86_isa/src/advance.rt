@@ -1,4 +1,4 @@
-//! One step of a machine, and the record that it gives.
+//! One step of a machine, and the record that it leaves.
 ghost use Rattle.std.specs.Prelude.{◌≡◌, ◌≢◌, ◌↔◌, ◌<◌, ◌/◌, IfNone, IsNone, Some, length, slice_get};
 ghost use Rattle.y86_isa.specs.Blocks as blocks;
 ghost use Rattle.y86_isa.specs.Step as spec;
@@ -16,7 +16,7 @@ use crate::table::{
 use crate::work::Work;
 use y86_base::{Stat, Variant};
 
-/// Ends an instruction: its registers, flags, store and PC where it ends with AOK, and its status.
+/// Ends an instruction: sets the status and, if that is AOK, the registers, flags, store and PC.
 #[inline(always)]
 fn finish(m: &mut Machine, work: &Work)
     ensures { m.new ≡ spec.machine_after m.old work.now }
@@ -31,7 +31,7 @@ fn finish(m: &mut Machine, work: &Work)
     put_store(&mut m.mem, work.store);
 }
 
-/// Does an instruction that was read, whose row this is.
+/// Executes an instruction that was read, given its row.
 #[inline(always)]
 #[tactic(auto, unfolding(crate::specs::Work::work, crate::specs::Blocks::fetched))]
 fn advance_by(v: Variant, m: &mut Machine, row: &Row, read: Reading)
@@ -44,7 +44,7 @@ fn advance_by(v: Variant, m: &mut Machine, row: &Row, read: Reading)
     finish(m, &work);
 }
 
-/// Does the instruction at the PC, whichever it is.
+/// Executes the instruction at the PC, whichever it is.
 #[cold]
 #[inline(never)]
 fn advance_any(v: Variant, m: &mut Machine)
@@ -54,7 +54,7 @@ fn advance_any(v: Variant, m: &mut Machine)
     advance_by(v, m, &row(v, read.icode), read)
 }
 
-/// Does the instruction at the PC, whose first byte and row these are. Where this is compiled, the row of each call is known.
+/// Executes the instruction at the PC, given its first byte and its row. The row is a constant at each call.
 #[inline(always)]
 #[tactic(auto, unfolding(crate::specs::Blocks::reading))]
 fn advance_first(v: Variant, m: &mut Machine, first: u8, row: &Row)
@@ -83,7 +83,7 @@ fn advance_first(v: Variant, m: &mut Machine, first: u8, row: &Row)
     )
 }
 
-/// Does the instruction at the PC, whose first byte this is.
+/// Executes the instruction at the PC, given its first byte.
 #[inline(always)]
 #[tactic(auto, unfolding(crate::specs::Table::row))]
 fn advance_at(v: Variant, m: &mut Machine, first: u8)
@@ -128,7 +128,7 @@ pub fn do_step(v: Variant, m: &mut Machine)
     }
 }
 
-/// The record of an instruction that left the machine `m`.
+/// The record of an instruction, after which the machine is `m`.
 fn record(pc: u64, work: &Work, m: &Machine) -> Rec
     ensures { result ≡ spec.record_from pc work.now m.now.flags }
 {
@@ -147,10 +147,10 @@ fn record(pc: u64, work: &Work, m: &Machine) -> Rec
     rec.normal()
 }
 
-/// One step: does the instruction at the PC, and answers its record. A machine whose status isn't AOK has
+/// One step: executes the instruction at the PC, and returns its record. A machine whose status isn't AOK has
 /// stopped: nothing changes, and there is no record.
 ///
-/// No memory is taken, and only the bytes of the instruction and its data are touched.
+/// It allocates nothing, and touches only the bytes of the instruction and its data.
 #[tactic(auto, unfolding(crate::specs::Step::advance, crate::specs::Step::retired))]
 pub fn step(v: Variant, m: &mut Machine) -> Option<Rec>
     ensures stopped { IsNone result ↔ (m.old.stat ≢ Stat.Aok) }

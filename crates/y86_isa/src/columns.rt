@@ -31,7 +31,7 @@ pub enum AluBColumn {
     ValB,
 }
 
-/// What an instruction does at memory, besides being fetched.
+/// The access of an instruction to memory, apart from its fetch.
 #[derive(Clone, Copy, Debug, PartialEq, Eq)]
 pub enum MemoryColumn {
     NoMem,
@@ -50,9 +50,9 @@ pub enum MemoryColumn {
 pub enum NextPcColumn {
     /// At the PC itself: nothing follows.
     Itself,
-    /// At valP, behind the instruction.
+    /// At valP, after the instruction.
     Fall,
-    /// At valC where the condition holds, else at valP.
+    /// At valC if the condition holds, else at valP.
     Branch,
     /// At valC.
     Target,
@@ -60,10 +60,10 @@ pub enum NextPcColumn {
     Loaded,
 }
 
-/// A row of the instruction table: what CS:APP 3e, figures 4.18 to 4.21, say of one icode.
+/// A row of the instruction table: CS:APP 3e, figures 4.18 to 4.21, for one icode.
 #[derive(Clone, Copy, Debug, PartialEq, Eq)]
 pub struct Row {
-    /// How many bytes the instruction has.
+    /// The length of the instruction in bytes.
     pub length: u64,
     /// Whether the fields `rA` and `rB` have to name a register.
     pub uses_a: bool,
@@ -71,13 +71,13 @@ pub struct Row {
     /// Whether there is a register byte, and an 8-byte constant.
     pub has_byte: bool,
     pub has_const: bool,
-    /// The largest ifun that the icode takes; 15 where it ignores its ifun.
+    /// The largest ifun that the icode accepts; 15 if it ignores its ifun.
     pub ifun_top: u64,
     pub src_a: RegisterColumn,
     pub src_b: RegisterColumn,
     pub dst_e: RegisterColumn,
     pub dst_m: RegisterColumn,
-    /// Whether the destination of valE is written only where the condition holds.
+    /// Whether the destination of valE is written only if the condition holds.
     pub conditional: bool,
     pub alu_a: AluAColumn,
     pub alu_b: AluBColumn,

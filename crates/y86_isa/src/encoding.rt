@@ -12,8 +12,8 @@ use y86_base::Variant;
 /// The variant that has every instruction.
 const WIDEST: Variant = Variant::Full;
 
-/// An instruction as its fields. A register field that the instruction doesn't use is 15, and the constant of
-/// one without a constant is 0.
+/// An instruction as its fields. A register field that the instruction doesn't use is 15, and a constant that it
+/// doesn't have is 0.
 #[derive(Clone, Copy, Debug, PartialEq, Eq)]
 pub struct Instr {
     pub icode: u8,
@@ -39,9 +39,9 @@ fn fits_row(row: &Row, i: &Instr) -> bool
         && (row.has_const || i.val_c == 0)
 }
 
-/// Whether the fields are those of an instruction of the variant: its icode has a row; its ifun is 0 to 6 for
-/// icodes 2 and 7, 0 to 3 for icode 6 and 0 for all others; its used register fields name registers, and what it
-/// doesn't use is 15, or 0 for the constant.
+/// Whether the fields are those of an instruction of the variant. Its icode has a row; its ifun is 0 to 6 for icodes 2
+/// and 7, 0 to 3 for icode 6 and 0 for all others; the register fields that it uses name registers. An unused field is
+/// 15, or 0 for the constant.
 pub fn valid(v: Variant, i: &Instr) -> bool
     ensures { IsTrue result ↔ encoding.IsValid v i.now }
 {
@@ -49,7 +49,7 @@ pub fn valid(v: Variant, i: &Instr) -> bool
     icode < icode_count(v) && fits_row(&row(v, icode), i)
 }
 
-/// A byte of two halves.
+/// A byte from its two halves.
 fn joined(high: u8, low: u8) -> u8
     requires high { high ≤ 15 }
     requires low { low ≤ 15 }

@@ -7,9 +7,9 @@ use crate::columns::Row;
 use crate::table::{INOP, INVALID_ICODE, NO_REGISTER, icode_count, row};
 use y86_base::{Image, Variant};
 
-/// What the bytes at a PC read as.
+/// How the bytes at a PC are read.
 ///
-/// `error` says that a byte of the instruction is outside the memory; the icode is then 1 and the ifun 0. An
+/// `error` means that a byte of the instruction is outside the memory; the icode is then 1 and the ifun 0. An
 /// invalid instruction has icode 15 and ifun 0.
 #[derive(Clone, Copy, Debug, PartialEq, Eq)]
 pub struct Reading {
@@ -20,7 +20,7 @@ pub struct Reading {
 
 /// An instruction as it is fetched (CS:APP 3e, figure 4.27).
 ///
-/// `error` says that a byte is outside the memory. The icode is then 1, and it is 15 for an invalid
+/// `error` means that a byte is outside the memory. The icode is then 1, and it is 15 for an invalid
 /// instruction; in both cases the register fields are 15, `val_c` is 0 and `val_p` is the PC plus 1.
 #[derive(Clone, Copy, Debug, PartialEq, Eq)]
 pub struct Fetched {
@@ -39,7 +39,7 @@ fn byte_at(memory: &Image, address: u64) -> u8
     memory.byte(address).unwrap_or(0)
 }
 
-/// The fields `rA` and `rB` behind the first byte where there is a register byte, and 15 where there is none.
+/// The fields `rA` and `rB` after the first byte if there is a register byte, and 15 if there is none.
 #[inline(always)]
 #[tactic(auto, unfolding(crate::specs::Blocks::field_a, crate::specs::Blocks::field_b))]
 pub fn register_fields(memory: &Image, pc: u64, need_regids: bool) -> (u64, u64)
@@ -53,7 +53,7 @@ pub fn register_fields(memory: &Image, pc: u64, need_regids: bool) -> (u64, u64)
     (byte / 16, byte % 16)
 }
 
-/// The 8 bytes from an address on, little-endian, where some may be outside the memory.
+/// The 8 bytes from an address on, little-endian, of which some may be outside the memory.
 #[cold]
 #[inline(never)]
 #[tactic(auto, unfolding(crate::specs::Blocks::word_from))]
@@ -85,8 +85,8 @@ fn word_from(memory: &Image, at: u64) -> u64
     }
 }
 
-/// The constant behind the first byte and the register byte, little-endian, and 0 where there is none. A byte
-/// outside the memory counts as 0.
+/// The constant after the first byte and the register byte, little-endian; 0 if there is none. A byte outside the
+/// memory counts as 0.
 #[inline(always)]
 #[tactic(auto, using(crate::proofs::Fetching::word_wrapped), unfolding(crate::specs::Blocks::constant_at))]
 pub fn constant_at(memory: &Image, pc: u64, need_regids: bool, need_const: bool) -> u64
@@ -98,7 +98,7 @@ pub fn constant_at(memory: &Image, pc: u64, need_regids: bool, need_const: bool)
     word_from(memory, pc.wrapping_add(if need_regids { 2 } else { 1 }))
 }
 
-/// The address behind an instruction at `pc`.
+/// The address after an instruction at `pc`.
 #[inline(always)]
 #[tactic(auto, unfolding(crate::specs::Blocks::behind))]
 pub fn behind(pc: u64, need_regids: bool, need_const: bool) -> u64
@@ -117,7 +117,7 @@ pub fn is_inside(memory: &Image, pc: u64, bytes: u64) -> bool
     bytes <= size && pc <= size - bytes
 }
 
-/// Whether a register field that the row uses names no register.
+/// Whether a register field that the instruction uses names no register.
 #[inline(always)]
 pub fn lacks_register(memory: &Image, pc: u64, row: &Row) -> bool
     ensures { result ≡ blocks.lacks_register memory.now pc row.now }
@@ -166,7 +166,7 @@ pub fn read(v: Variant, memory: &Image, pc: u64) -> Reading
     }
 }
 
-/// Splits the instruction that was read at `pc` into its fields, where this is its row.
+/// Splits the instruction that was read at `pc` into its fields, by its row.
 #[inline(always)]
 pub fn split_by(memory: &Image, pc: u64, row: &Row, read: Reading) -> Fetched
     ensures { result ≡ blocks.fetched_by memory.now pc read row.now }

@@ -1,4 +1,4 @@
-//! Theorems about steps and runs. Each is a function that does nothing and whose contract is the theorem.
+//! Theorems about steps and runs. Each is a function that does nothing; its contract is the theorem.
 ghost use Rattle.std.specs.Prelude.{◌≡◌, ◌≢◌, ℕ, ◌+◌, ◌^◌, ◌<◌, ◌≤◌, Bool, IfSome, IsTrue, if◌then◌else◌, List, [], ◌++◌, length, slice_get, None};
 ghost use Rattle.std.specs.List.{list_all};
 ghost use Rattle.std.specs.Option.{option_to_list};
@@ -19,9 +19,9 @@ ghost use Rattle.y86_isa.specs.declared.encoding.Instr.{Instr};
 ghost use Rattle.y86_isa.specs.declared.machine.Machine.{Machine};
 ghost use Rattle.y86_isa.specs.declared.machine.Rec.{Rec};
 
-/// What holds of every row, that of dashes included, holds of the row of each icode; an icode that has no row has
-/// that of dashes. A row of an instruction set is that of the widest one. The length of an instruction is that of its
-/// parts.
+/// A test that passes for every row, and for the row of dashes, passes for the row of each icode. An icode without a
+/// row has the row of dashes. A row of an instruction set is also the row of the widest one. The length of an
+/// instruction is the sum of its parts.
 pub fn law_of_rows()
     ensures every { (p : Row → Bool) (v : Variant) (icode : ℕ) → IsTrue (list_all p (rows v)) →
         IsTrue (p dash_row) → IsTrue (p (row v icode)) }
@@ -31,8 +31,7 @@ pub fn law_of_rows()
         ≡ 1 + (if (row v icode).has_byte then 1 else 0) + (if (row v icode).has_const then 8 else 0) }
 {}
 
-/// The columns of one row agree: those of operands and of what they are for, of sources, of memory and the next PC,
-/// and of register fields.
+/// The columns of one row agree: operands with their uses, sources, memory with the next PC, and register fields.
 pub fn law_of_columns()
     ensures operands { (v : Variant) (icode : ℕ) → OperandsAgree (row v icode) }
     ensures sources { (v : Variant) (icode : ℕ) → SourcesAgree (row v icode) }
@@ -40,18 +39,18 @@ pub fn law_of_columns()
     ensures fields { (v : Variant) (icode : ℕ) → FieldsAgree (row v icode) }
 {}
 
-/// The work of an instruction follows what is fetched at the PC, and the row of its icode. An instruction that is bad
-/// at its fetch, or is a halt, does nothing.
+/// The work of an instruction follows from what is fetched at the PC and from the row of its icode. A halt, or an
+/// instruction that is bad at its fetch, does nothing.
 pub fn law_of_work()
     ensures fetch { (v : Variant) (m : Machine) → FollowsFetch (fetched v m.mem m.pc) (work v m) }
     ensures row { (v : Variant) (m : Machine) → FollowsRow (row v (work v m).icode) m (work v m) }
     ensures bad { (v : Variant) (m : Machine) → (work v m).fetch_stat ≢ Aok → DoesNothing (row v (work v m).icode) }
 {}
 
-/// What one step may change. At most one register beside `%rsp`; of the memory, the 8 bytes of the record's
-/// store and nothing else; the flags only where the row sets them. The PC moves behind an instruction that falls through
-/// by its row, unless it ends with another status than AOK. A machine that has stopped stays as it is. The record tells
-/// the whole step.
+/// What one step may change: at most one register other than `%rsp`; in memory, only the 8 bytes of the record's store;
+/// the flags, only if the row sets them. The PC moves to the address after an instruction that falls through by its
+/// row, unless the instruction ends with another status than AOK. A machine that has stopped doesn't change. The record
+/// determines the whole step.
 pub fn law_of_steps()
     ensures registers { (v : Variant) (m : Machine) → ChangesOneRegister m.regs (advance v m).regs }
     ensures memory { (v : Variant) (m : Machine) (address : ℕ) → (IsStoredBy (retired v m) address → ⊥) →
@@ -68,14 +67,14 @@ pub fn law_of_stack()
     ensures popped { (v : Variant) (m : Machine) → IsMachine m → PopLeavesLoaded v m }
 {}
 
-/// The normal form of a record keeps all but destinations and stores, and with another status than AOK these count for
-/// nothing.
+/// The normal form of a record changes only destinations and stores. If the status isn't AOK, it doesn't depend on
+/// them.
 pub fn law_of_normal_form()
     ensures keeps { (r : Rec) → SameButDone r (normal r) }
     ensures bad { (r s : Rec) → r.stat ≢ Aok → SameButDone r s → normal s ≡ normal r }
 {}
 
-/// A run of no step, of one step more, and of a machine that has stopped.
+/// Runs of no step, of one more step, and of a machine that has stopped.
 pub fn law_of_runs()
     ensures no_step { (v : Variant) (m : Machine) → run_from v m 0 ≡ m }
     ensures one_more { (v : Variant) (m : Machine) (n : ℕ) →
@@ -85,8 +84,8 @@ pub fn law_of_runs()
     ensures stopped { (v : Variant) (m : Machine) (n : ℕ) → m.stat ≢ Aok → run_from v m n ≡ m }
 {}
 
-/// The records of no step, of one step more, and of a machine that has stopped. The records of n steps are at
-/// most n, that of a machine of the run stands at its place among them, and they are fewer only where the run has stopped by the step behind the last of them.
+/// The records of no step, of one more step, and of a machine that has stopped. The records of n steps are at
+/// most n, the i-th is that of the i-th machine of the run, and they are fewer only if the run has stopped.
 pub fn law_of_records()
     ensures no_step { (v : Variant) (m : Machine) → records_from v m 0 ≡ [] }
     ensures one_more { (v : Variant) (m : Machine) (n : ℕ) →
@@ -101,8 +100,8 @@ pub fn law_of_records()
         (run_from v m (length (records_from v m n))).stat ≢ Aok }
 {}
 
-/// A run keeps an image an image, of the same size. An image that is pure for some steps is pure for fewer, and what an
-/// instruction fetches was the same at each step before.
+/// A run keeps an image an image, of the same size. An image that is pure for some steps is pure for fewer. The bytes
+/// that an instruction fetches were the same at each step before.
 pub fn law_of_images()
     ensures image { (v : Variant) (m : Machine) (n : ℕ) → IsImage m.mem → IsImage (run_from v m n).mem }
     ensures size { (v : Variant) (m : Machine) (n : ℕ) → length (run_from v m n).mem ≡ length m.mem }
@@ -112,8 +111,8 @@ pub fn law_of_images()
         fetched v (run v image j).mem (run v image i).pc ≡ fetched v (run v image i).mem (run v image i).pc }
 {}
 
-/// A machine that starts on an image has 15 registers, words below 2^64 and an image for its memory; so has every
-/// machine of its run. What is fetched from an image are halves of bytes and words.
+/// A machine that starts on an image has 15 registers, words below 2^64 and an image as its memory, and so has every
+/// machine of its run. The fields fetched from an image are halves of bytes, and words.
 pub fn law_of_machines()
     ensures start { (image : List ℕ) → IsImage image → IsMachine (start image) }
     ensures run { (v : Variant) (m : Machine) (n : ℕ) → IsMachine m → IsMachine (run_from v m n) }
@@ -121,8 +120,8 @@ pub fn law_of_machines()
         FitsFields (fetched v memory pc) }
 {}
 
-/// What is fetched depends on nothing but the fetched bytes and the size of the memory. It is an instruction with its
-/// registers, or one of the two signs of a bad one.
+/// What is fetched depends only on the fetched bytes and the size of the memory. It is an instruction with its
+/// registers, or is marked as bad in one of two ways.
 pub fn law_of_reading()
     ensures reading { (v : Variant) (memory : List ℕ) (pc : ℕ) → IsReading v (reading v memory pc) }
     ensures fields { (v : Variant) (memory : List ℕ) (pc : ℕ) → IsImage memory →
@@ -131,8 +130,8 @@ pub fn law_of_reading()
         fetched v other pc ≡ fetched v memory pc }
 {}
 
-/// An instruction has as many bytes as its row says, and a memory that holds those of a valid instruction at an
-/// address splits to its fields there.
+/// An instruction's length is the one that its row gives. If a memory holds the bytes of a valid instruction at an
+/// address, it splits to the instruction's fields there.
 pub fn law_of_encoding()
     ensures length { (i : Instr) → length (encoded i) ≡ (row widest i.icode).length }
     ensures read_back { (v : Variant) (i : Instr) (memory : List ℕ) (pc : ℕ) → IsValid v i →

@@ -1,11 +1,11 @@
-//! The state of a machine that a program sees, and the record of an instruction.
+//! The programmer-visible state of a machine, and the record of an instruction.
 ghost use Rattle.std.specs.Prelude.{◌≡◌};
 ghost use Rattle.y86_isa.specs.Machine as machine;
 
 use crate::table::NO_REGISTER;
 use y86_base::{Flags, Image, Regs, Stat};
 
-/// What a program sees of the processor (CS:APP 3e, figure 4.1): the registers, the flags, the address of the
+/// The programmer-visible state (CS:APP 3e, figure 4.1): the registers, the flags, the address of the
 /// next instruction, the status and the memory.
 #[derive(Debug, Drop)]
 pub struct Machine {
@@ -46,7 +46,7 @@ pub struct Store {
 
 /// What one instruction did.
 ///
-/// A destination that is no register is 15, and its value then 0. A record whose status isn't AOK has no
+/// A destination that is no register is 15, and its value is then 0. A record whose status isn't AOK has no
 /// destination and no store. The flags are those after the instruction.
 #[derive(Clone, Copy, Debug, PartialEq, Eq)]
 pub struct Rec {
@@ -62,7 +62,7 @@ pub struct Rec {
     pub stat: Stat,
 }
 
-/// A destination and the word that it gets; one that is no register is 15, and gets 0.
+/// A destination and the word that it gets; a destination that is no register is 15, and its word 0.
 fn written(number: u64, word: u64) -> (u64, u64)
     ensures number { result.0 ≡ machine.written_number number }
     ensures word { result.1 ≡ machine.written_word number word }
@@ -77,8 +77,8 @@ fn written(number: u64, word: u64) -> (u64, u64)
 impl Rec {
     ghost use Rattle.y86_isa.specs.Machine.{normal};
 
-    /// The record in its normal form: what isn't done is left out, and number 15 stands for any destination
-    /// that is no register.
+    /// The record in its normal form: effects that don't take place are left out, and 15 is the only destination that
+    /// is no register.
     pub fn normal(self) -> Rec
         ensures { result ≡ normal self }
     {

@@ -11,7 +11,7 @@ use crate::table::{NO_REGISTER, STACK_POINTER};
 use crate::unit::{alu, cond};
 use y86_base::{Flags, Image, Regs};
 
-/// What an instruction decodes to: the numbers of its sources and destinations, and the words of its sources.
+/// The results of decode: the numbers of the sources and destinations, and the words of the sources.
 #[derive(Clone, Copy)]
 pub struct Decoded {
     pub src_a: u64,
@@ -22,7 +22,7 @@ pub struct Decoded {
     pub val_b: u64,
 }
 
-/// What the execute stage gives: the ALU's result, the flags after it, the condition and the destination.
+/// The results of execute: the ALU's result, the flags after it, the condition and the destination.
 #[derive(Clone, Copy)]
 pub struct Executed {
     pub val_e: u64,
@@ -31,8 +31,8 @@ pub struct Executed {
     pub dst_e: u64,
 }
 
-/// What the memory stage gives: the address of the data, whether the word there isn't inside, the word that is
-/// read, and the store that is done.
+/// The results of the memory stage: the address of the data, whether the access is out of bounds, the word that is
+/// read, and the store that takes place.
 #[derive(Clone, Copy)]
 pub struct Accessed {
     pub address: u64,
@@ -101,7 +101,7 @@ pub fn data_error(memory: &Image, address: u64, reads: bool, writes: bool) -> bo
     (reads || writes) && memory.word(address).is_none()
 }
 
-/// The word that is read at an address, and 0 where none is read or it isn't all inside the memory.
+/// The word that is read at an address; 0 if none is read or it isn't all inside the memory.
 #[tactic(auto, unfolding(crate::specs::Blocks::data_read))]
 pub fn data_read(memory: &Image, address: u64, reads: bool) -> u64
     ensures { result ≡ blocks.data_read memory.now address reads }
@@ -113,7 +113,7 @@ pub fn data_read(memory: &Image, address: u64, reads: bool) -> u64
     }
 }
 
-/// The store that is done, if one is, unless the data are in error.
+/// The store that takes place, if there is one and the access isn't in error.
 #[tactic(auto, unfolding(crate::specs::Blocks::data_store))]
 pub fn data_store(address: u64, word: u64, writes: bool, error: bool) -> Option<Store>
     ensures { result ≡ blocks.data_store address word writes error }
@@ -128,7 +128,7 @@ pub fn data_store(address: u64, word: u64, writes: bool, error: bool) -> Option<
     }
 }
 
-/// Does a store, if there is one, in the memory.
+/// Performs a store, if there is one.
 #[tactic(auto, unfolding(crate::specs::Blocks::stored))]
 pub fn put_store(memory: &mut Image, store: Option<Store>)
     ensures { memory.new ≡ blocks.stored memory.old store }
@@ -138,7 +138,7 @@ pub fn put_store(memory: &mut Image, store: Option<Store>)
     }
 }
 
-/// Writes both destinations to the registers, that of valM last.
+/// Writes both destinations to the registers, the destination of valM last.
 #[inline(always)]
 pub fn write_back(regs: &mut Regs, dst_e: u64, val_e: u64, dst_m: u64, val_m: u64)
     ensures { regs.new ≡ blocks.written_back regs.old dst_e val_e dst_m val_m }
@@ -164,7 +164,7 @@ pub fn decode(regs: &Regs, row: &Row, fetched: &Fetched) -> Decoded
     }
 }
 
-/// The execute stage, under the flags before the instruction.
+/// The execute stage, with the flags from before the instruction.
 #[inline(always)]
 pub fn execute(before: Flags, row: &Row, fetched: &Fetched, decoded: &Decoded) -> Executed
     ensures { result ≡ spec.executed before row.now fetched.now decoded.now }

@@ -7,12 +7,12 @@ use y86_base::Variant;
 
 /// The icode of halt (CS:APP 3e, figure 4.26).
 pub const IHALT: u64 = 0;
-/// The icode of nop, as which an instruction outside the memory reads.
+/// The icode of nop; an instruction outside the memory is read as a nop.
 pub const INOP: u64 = 1;
-/// The icode that stands for an invalid instruction.
+/// The icode of an invalid instruction.
 pub const INVALID_ICODE: u64 = 15;
 
-/// The number that stands for no register.
+/// The number that means no register.
 pub const NO_REGISTER: u64 = 15;
 /// The number of `%rsp`.
 pub const STACK_POINTER: u64 = 4;
@@ -206,7 +206,7 @@ pub const IADDQ: Row = Row {
     ..DASH
 };
 
-/// The number of icodes that have a row in the variant; they are those below it.
+/// The number of icodes that have a row in the variant; they are the icodes below it.
 pub fn icode_count(v: Variant) -> u64
     ensures { result ≡ length (table.rows v) }
 {
@@ -216,7 +216,7 @@ pub fn icode_count(v: Variant) -> u64
     }
 }
 
-/// The row of an icode in the instruction table, and the row of dashes for an icode that has none.
+/// The row of an icode in the instruction table; an icode that has none has the row of dashes.
 #[tactic(auto, unfolding(crate::specs::Table::row))]
 pub fn row(v: Variant, icode: u64) -> Row
     ensures row { result ≡ table.row v icode }

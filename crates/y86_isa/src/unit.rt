@@ -4,7 +4,7 @@ ghost use Rattle.y86_isa.specs.Blocks as blocks;
 
 use y86_base::Flags;
 
-/// What the arithmetic/logic unit gives: the result and its condition codes.
+/// The results of the arithmetic/logic unit: a word and its condition codes.
 #[derive(Clone, Copy, Debug, PartialEq, Eq)]
 pub struct AluOut {
     pub val: u64,
@@ -67,7 +67,7 @@ pub fn alu(f: u64, a: u64, b: u64) -> AluOut
     with_codes(val, overflows)
 }
 
-/// Whether a condition holds of the flags: always for 0, then le, l, e, ne, ge and g for 1 to 6 (CS:APP 3e,
+/// Whether the flags meet a condition: always for 0, then le, l, e, ne, ge and g for 1 to 6 (CS:APP 3e,
 /// figures 3.15 and 4.3), and never for any other number.
 #[tactic(auto, unfolding(crate::specs::Blocks::condition))]
 pub fn cond(f: u64, flags: Flags) -> bool

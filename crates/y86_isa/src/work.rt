@@ -1,4 +1,4 @@
-//! What an instruction reads and computes, in all its stages.
+//! All that an instruction reads and computes, stage by stage.
 ghost use Rattle.std.specs.Prelude.{◌≡◌};
 ghost use Rattle.y86_isa.specs.Blocks as blocks;
 ghost use Rattle.y86_isa.specs.Work as spec;
@@ -10,10 +10,10 @@ use crate::stages::{access, decode, execute};
 use crate::table::{IHALT, INVALID_ICODE, row};
 use y86_base::{Flags, Stat, Variant};
 
-/// What one instruction reads and computes, stage by stage, under the names of CS:APP 3e, section 4.3.1.
+/// What one instruction reads and computes, stage by stage, with the names of CS:APP 3e, section 4.3.1.
 #[derive(Clone, Copy, Debug)]
 pub struct Work {
-    /// The status by what was fetched alone.
+    /// The status from what was fetched alone.
     pub fetch_stat: Stat,
     pub icode: u64,
     pub ifun: u64,
@@ -31,18 +31,18 @@ pub struct Work {
     pub val_b: u64,
 
     pub val_e: u64,
-    /// The flags behind the ALU.
+    /// The flags after the ALU.
     pub flags: Flags,
     pub cnd: bool,
     pub dst_e: u64,
 
-    /// The address of the data, and whether the word there is to be read or written and isn't inside.
+    /// The address of the data, and whether a word is to be read or written there and isn't all inside.
     pub address: u64,
     pub fault: bool,
     pub val_m: u64,
     pub store: Option<Store>,
 
-    /// The next PC, where the instruction ends with AOK.
+    /// The next PC, if the instruction ends with AOK.
     pub next_pc: u64,
     /// The status with which the instruction ends.
     pub stat: Stat,

@@ -1,4 +1,4 @@
--- Comments: what is skipped, and that a `/*` behind one that isn't closed isn't closed either.
+-- Comments: which bytes are skipped, and that after a `/*` that isn't closed no later `/*` is closed.
 use Rattle.std.proofs.Common.{◌≡◌, ◌<◌, ◌≤◌, sym, ap, ◌∙◌, ℕ, zero, suc, ◌+◌, ◌-◌, Bool, true, false, cond, List, [], ◌∷◌, drop, refl, arith}
 use Rattle.std.specs.Prelude.{nat_eq, codes, not, ◌||◌, ◌==◌}
 use Rattle.std.specs.List.{starts_with}
@@ -17,7 +17,7 @@ later : (found : Bool) (n : ℕ) → cond found 2 (cond (n == 0) 0 (n + 1)) ≡ 
 later true n e = cc
 later false n e = grind (arith, nat_tests)
 
--- where no `*/` stands, none stands further behind
+-- if there is no `*/`, there is none further on
 pub close_length-drop : (text : List ℕ) → close_length text ≡ 0 → close_length (drop 1 text) ≡ 0
 unfolding close_length
 close_length-drop [] e = refl
@@ -36,7 +36,7 @@ at_comment (suc n) byte bytes h =
     let m : suc n - 1 ≡ n = omega arith in
     rw (e, m) (bad_outside-skip n bytes)
 
--- the sweep goes on behind a comment
+-- the sweep continues after a comment
 pub bad_outside-comment : (text rest : List ℕ) (n : ℕ) → n ≡ comment_length text → 0 < n → rest ≡ drop n text → bad_outside 0 rest ≡ bad_outside 0 text
 unfolding bad_outside
 bad_outside-comment [] rest zero e h f = absurd (omega arith)
@@ -47,7 +47,7 @@ at_plain : (n byte : ℕ) (bytes : List ℕ) → n ≤ 0 → cond (n == 0) (not 
 at_plain zero byte bytes h = refl
 at_plain (suc n) byte bytes h = absurd (omega arith)
 
--- where no comment begins, the byte counts
+-- if no comment begins here, the byte counts
 pub bad_outside-plain : (text bytes : List ℕ) (byte n : ℕ) → n ≡ comment_length text → n ≤ 0 → text ≡ byte ∷ bytes → bad_outside 0 text ≡ (not (is_good byte) || bad_outside 0 bytes)
 unfolding bad_outside
 bad_outside-plain text bytes byte n e h f = rw f (rw (← f, ← e) (at_plain n byte bytes h))

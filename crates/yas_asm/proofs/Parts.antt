@@ -1,4 +1,4 @@
--- What equations of lists, of options and of tests say of their parts.
+-- From an equation of lists, of options or of tests follow equations of their parts.
 use Rattle.std.proofs.Common.{◌≡◌, ◌≤◌, ℕ, sym, Bool, true, false, cond, List, [], ◌∷◌, ◌++◌, Option, None, Some, refl, arith}
 use Rattle.std.specs.Prelude.{is_some, is_none, nat_le}
 use Rattle.std.proofs.lemmas.Option.{none-some}

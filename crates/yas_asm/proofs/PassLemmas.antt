@@ -1,4 +1,4 @@
--- The passes over the lines of a source: what each keeps from line to line.
+-- The passes over the lines of a source: their invariants from line to line.
 use Rattle.std.proofs.Common.{◌≡◌, ◌+◌, ◌≤◌, ap, sym, subst, ◌∙◌, ℕ, Bool, true, false, cond, List, [], ◌∷◌, ◌++◌, length, fold, Option, None, Some, Result, Ok, Err, refl, arith}
 use Rattle.std.specs.Prelude.{◌⊎◌, is_some, is_none}
 use Rattle.std.proofs.Common.{inl, inr}
@@ -18,7 +18,7 @@ use Rattle.yas_asm.specs.declared.listing.Line.{Line}
 use Rattle.yas_asm.specs.declared.statement.Statement.{Statement}
 use Rattle.yas_asm.specs.declared.statement.Parsed.{Parsed}
 
--- the labels with those of some further lines
+-- the labels, extended by those of further lines
 unfoldable pub labels_from : List (List ℕ × ℕ) → List Placed → List (List ℕ × ℕ)
 labels_from table placed = fold (λ table line. with_label table line.address (label_of line.read)) table placed
 
@@ -38,12 +38,12 @@ labels_end variant size address table rest e = rw e refl
 
 pub ruleset collecting = (labels_begin, labels_more, labels_end)
 
--- a statement keeps within the size, and its bytes are at addresses that have none
+-- a statement stays within the size, and its bytes are at addresses that have none yet
 pub record IsFree (variant : Variant) (size : ℕ) (used : List ℕ) (address : ℕ) (statement : Statement) : Type 0 where
   pub inside : is_some (place variant size address statement) ≡ true
   pub free : overlaps used address (width_of variant statement) ≡ false
 
--- the tests of a line without a fault
+-- the tests that a line without a fault passes
 pub record IsWithoutFault (variant : Variant) (size : ℕ) (known : List (List ℕ × ℕ)) (used : List ℕ) (address : ℕ) (parsed : Parsed) : Type 0 where
   pub new_label : is_defined known parsed.label ≡ false
   pub within_limit : is_past_limit known parsed.label ≡ false
@@ -65,13 +65,13 @@ pub free_without_fault : (variant : Variant) (size : ℕ) (table known : List (L
     → statement_fault variant size table known used address parsed ≡ None → IsFree variant size used address parsed.statement
 free_without_fault variant size table known used address parsed e = (faultless variant size table known used address parsed e).emits
 
--- the bytes of a line without a fault are from its address on
+-- the bytes of a line without a fault begin at its address
 pub emitted-free : (variant : Variant) (size : ℕ) (used : List ℕ) (address : ℕ) (statement : Statement) → IsFree variant size used address statement
     → emitted variant size address statement ≡ range_with_len address (width_of variant statement)
 unfolding emitted
 emitted-free variant size used address statement h = rw h.inside refl
 
--- the first line with a fault, from what the lines before it left: their labels, their addresses and their number
+-- the first line with a fault, given the labels, the addresses in use and the number of the lines before
 unfoldable pub faults_from : Variant → ℕ → List (List ℕ × ℕ) → List (List ℕ × ℕ) → List ℕ → ℕ → List Placed → Option AsmFault
 faults_from variant size table known used passed [] = None
 faults_from variant size table known used passed (line ∷ rest) =
@@ -91,7 +91,7 @@ length_push : {A : Type 0} (xs : List A) (x : A) → length (xs ++ x ∷ []) ≡
 length_push [] x = refl
 length_push (y ∷ xs) x = omega (arith, length_push xs x)
 
--- what the lines before left says all that the first fault needs of them
+-- the first fault depends on the lines before only by their labels, their addresses and their number
 pub first_fault-state : (variant : Variant) (size : ℕ) (table : List (List ℕ × ℕ)) (before rest : List Placed)
     → first_fault variant size table before rest ≡ faults_from variant size table (labels before) (filled variant size before) (length before) rest
 unfolding first_fault faults_from
@@ -101,7 +101,7 @@ first_fault-state variant size table before (line ∷ rest) =
     (first_fault-state variant size table (before ++ line ∷ []) rest
     ∙ (λ i. faults_from variant size table (labels-push before line i) (filled-push variant size before line i) (length_push before line i) rest))
 
--- what is answered for some lines behind others, which have left their labels, their addresses and their listing
+-- the outcome for the remaining lines, given the labels, addresses and listing of the lines before
 unfoldable pub outcome_from : Variant → ℕ → List (List ℕ × ℕ) → List (List ℕ × ℕ) → List ℕ → ℕ → ℕ → List Line → List Placed → Result (List Line) AsmFault
 outcome_from variant size table known used passed from done rest =
     listing_unless (faults_from variant size table known used passed rest) (done ++ listing variant size table from rest)
@@ -134,7 +134,7 @@ pub outcome_fault : (variant : Variant) (size address : ℕ) (table known : List
 unfolding outcome_from placed faults_from listing
 outcome_fault variant size address table known used passed from done rest text behind why e f = rw (e, f) refl
 
--- how many bytes some lines have with a line feed behind each
+-- the number of bytes of lines with a line feed after each
 abbrev pub total : List (List ℕ) → ℕ
 total [] = 0
 total (line ∷ rest) = length line + 1 + total rest
@@ -163,7 +163,7 @@ count-lines : (source : List ℕ) → length (lines source) ≤ length source
 count-lines [] = omega arith
 count-lines (byte ∷ source) = omega (arith, count-line (is_line_feed byte) byte (lines source) (length source) (count-lines source))
 
--- what holds before each line of the second pass
+-- the invariant before each line of the second pass
 pub record IsOnWay (variant : Variant) (size : ℕ) (table known : List (List ℕ × ℕ)) (used : List ℕ) (passed from address : ℕ) (done : List Line) (source rest : List ℕ) : Type 0 where
   pub outcome : outcome_from variant size table known used passed from done (placed variant size address (lines rest)) ≡ assembled_with variant size table (source_lines variant size source)
   pub counted : passed + length (lines rest) ≡ length (lines source)

@@ -1,4 +1,5 @@
--- Every statement that the grammar reads is sound: its instruction is valid, its `.align` has a number that is at least 1.
+-- Every statement that the grammar reads is sound: its instruction is valid, and the number of an `.align` is at least
+-- 1.
 use Rattle.std.proofs.Common.{◌≡◌, ◌<◌, ap, sym, subst, ◌∙◌, ℕ, Bool, true, false, cond, List, [], ◌∷◌, length, Option, None, Some, Result, Ok, Err, refl, arith}
 use Rattle.std.specs.Prelude.{nat_lt, nat_le, nat_eq, not, ◌&&◌, ◌||◌, ◌==◌}
 use Rattle.std.specs.List.{list_all, starts_with}
@@ -33,7 +34,7 @@ use Rattle.yas_asm.specs.Grammar.{◌>>=◌, instruction, two_registers, immedia
 use Rattle.yas_asm.proofs.Parts.{at_most}
 use Rattle.yas_asm.specs.Sound.{IsSound}
 
--- where a step of a reading gives something, the step before it did
+-- if a step of a reading gives a result, the step before it did
 pub then_some : {A B : Type 0} (o : Option A) (f : A → Option B) (y : B) → (o >>= f) ≡ Some y → (x : A) × (o ≡ Some x) × (f x ≡ Some y)
 then_some None f y e = absurd (none-some y e)
 then_some (Some x) f y e = (x, refl, e)
@@ -44,7 +45,7 @@ module _ {A : Type 0} (test : A → Bool) where
   from_row true row behind rest x here later e = subst (λ (y : A × List ℕ). test y.0 ≡ true) (same_Some _ _ e) here
   from_row false row behind rest x here later e = later e
 
-  -- what holds of each meaning of a table holds of the one that is read
+  -- a test that each meaning of a table passes is passed by the one that is read
   pub keyword_at-test : (rows : List (List ℕ × A)) (text : List ℕ) (x : A × List ℕ) → list_all (λ row. test row.1) rows ≡ true → keyword_at rows text ≡ Some x → test x.0 ≡ true
   unfolding keyword_at
   keyword_at-test [] text x all e = absurd (none-some x e)
@@ -64,7 +65,7 @@ module _ {A : Type 0} (test : A → Bool) where
       from_meaning (bytes_eq text row.0) row (meaning_of rows text) x (and_parts (test row.1) _ all).0
       (meaning_of-test rows text x (and_parts (test row.1) _ all).1) e
 
--- a register that is read has a number ltb-true 15
+-- a register that is read has a number below 15
 pub register-below : (bytes : List ℕ) (x : ℕ × List ℕ) → register bytes ≡ Some x → x.0 < 15
 unfolding register register_names
 register-below bytes x e = ltb-true _ _ (keyword_at-test (λ n. nat_lt n 15) register_names (behind is_blank bytes) x refl e)
@@ -106,7 +107,7 @@ same_is true b e = sym e
 same_is false true e = absurd (false≢true e)
 same_is false false e = refl
 
--- the instruction table has the operands that the mnemonic takes
+-- the row in the instruction table has the operands of the mnemonic
 abbrev suits : Variant → Operation → Bool
 suits variant operation =
     nat_lt operation.icode (length (rows variant))
@@ -124,7 +125,7 @@ no_constant : (takes has : Bool) (A : Type 0) → (not takes || has) ≡ true �
 no_constant true has A e none fill = absurd (false≢true (sym none ∙ e))
 no_constant false has A e none fill = fill refl
 
--- an instruction whose operands are those of its mnemonic is sound
+-- an instruction is sound if its operands are those of its mnemonic
 sound_with : (variant : Variant) (operation : Operation) (a b : ℕ) (constant : Operand) → suits variant operation ≡ true
     → NamesRegister (takes_a operation.shape) a → NamesRegister (takes_b operation.shape) b → (takes_const operation.shape ≡ false → constant ≡ Word 0)
     → IsSound variant (instruction operation a b constant)
@@ -293,7 +294,7 @@ module _ (variant : Variant) where
           let t = then_some (statement variant bytes) (λ t. cond (ends t.1) (Some t.0) None) s e in
           kept (ends t.0.1) t.0.0 (statement_sound bytes t.0 t.1) t.2
 
-  -- a line of the form has a sound statement
+  -- a well-formed line has a sound statement
   pub line_sound : (bytes : List ℕ) (parsed : Parsed) → line variant bytes ≡ Some parsed → IsSound variant parsed.statement
   unfolding line
   line_sound bytes parsed e =

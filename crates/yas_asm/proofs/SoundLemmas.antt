@@ -1,4 +1,4 @@
--- What holds of each statement of the language.
+-- Properties of each statement of the language.
 use Rattle.std.proofs.Common.{◌≡◌, ◌+◌, ◌<◌, ◌≤◌, subst, ◌∙◌, ℕ, Bool, true, false, cond, List, length, None, Some, refl, arith}
 use Rattle.std.specs.Prelude.{is_some, nat_le}
 use Rattle.std.proofs.lemmas.Bool.{false≢true}
@@ -20,7 +20,7 @@ value_of-word : (table : List (List ℕ × ℕ)) (constant : Operand) → consta
 unfolding value_of
 value_of-word table constant e = rw e refl
 
--- an instruction of a variant is one of the widest
+-- an instruction of a variant is also one of the widest variant
 valid_widest : (variant : Variant) (i : Instr) → IsValid variant i → IsValid widest i
 valid_widest Base i valid = record { known = omega (arith, valid.known); fits = subst (λ r. FitsRow r i) (row-widest Base i.icode valid.known) valid.fits }
 valid_widest Full i valid = valid
@@ -45,7 +45,7 @@ within size n e = below (nat_le n size) refl e
     below true t e = grind (arith, nat_tests)
     below false t e = absurd (false≢true e)
 
--- where a statement keeps within the size, so do its bytes
+-- if a statement stays within the size, so do its bytes
 pub place_fits : (variant : Variant) (size address top : ℕ) (statement : Statement) → size ≤ top → address ≤ top → is_some (place variant size address statement) ≡ true
     → address + width_of variant statement ≤ top
 unfolding place width_of destination

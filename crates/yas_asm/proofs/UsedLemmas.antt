@@ -1,4 +1,4 @@
--- Addresses that have a byte: one more address, one byte more.
+-- The addresses in use: for one more address, and for one more byte.
 use Rattle.std.proofs.Common.{◌≡◌, ◌<◌, sym, ap, ◌∙◌, ℕ, zero, suc, ◌+◌, ◌-◌, false, List, [], ◌∷◌, ◌++◌, refl, arith}
 use Rattle.std.specs.Prelude.{nat_eq, ◌||◌}
 use Rattle.std.specs.List.{list_any, range_with_len}
@@ -16,7 +16,7 @@ unfolding overlaps
 overlaps_more used address zero h = absurd (omega arith)
 overlaps_more used address (suc n) h = let m : suc n - 1 ≡ n = omega arith in rw m refl
 
--- a byte that is emitted is at an address that has none, and the bytes behind it too
+-- an emitted byte is at an address that has none yet, and so are the bytes after it
 pub free_here : (used : List ℕ) (address n : ℕ) → 0 < n → overlaps used address n ≡ false → list_any (nat_eq address) used ≡ false
 free_here used address n h e = (or_parts _ _ (sym (overlaps_more used address n h) ∙ e)).0
 

@@ -1,6 +1,6 @@
--- The grammar of a line: an optional label, an optional statement, an optional comment, as the programs of CS:APP 3e, section 4.1.5, are
--- written; the operands of each instruction are those of figure 4.2. Each reader gives what it read with the bytes
--- behind it, or None where the bytes are not of its form.
+-- The grammar of a line: an optional label, an optional statement, an optional comment, as in the programs of CS:APP
+-- 3e, section 4.1.5. The operands of each instruction are those of figure 4.2. Each reader returns what it read with
+-- the bytes after it, or None if the bytes are not of its form.
 use Rattle.std.specs.Prelude.{ℕ, ◌-◌, ◌*◌, ◌^◌, Bool, true, false, not, ◌&&◌, ◌==◌, if◌then◌else◌, List, Option, Some, None, Result, Ok, Err, option_and_then}
 use Rattle.std.specs.Option.{option_map_or}
 use Rattle.y86_base.specs.declared.parts.Variant.{Variant}
@@ -28,7 +28,7 @@ infixl 10 ◌>>=◌
 abbrev pub ◌>>=◌ : {A B : Type 0} → Option A → (A → Option B) → Option B
 o >>= f = option_and_then f o
 
--- how many bytes a width is
+-- the number of bytes of a width
 abbrev pub bytes_of : Width → ℕ
 bytes_of One = 1
 bytes_of Two = 2
@@ -39,7 +39,7 @@ abbrev pub word_or_wide : Option ℕ → Operand
 word_or_wide None = operands.Wide
 word_or_wide (Some n) = operands.Word n
 
--- a written number as a word, where it lies from -2^(8w-1) to 2^(8w)-1 for w bytes
+-- a written number as a word, if it is between -2^(8w-1) and 2^(8w)-1 for w bytes
 unfoldable pub word_of : Width → Number → Operand
 word_of width number = word_or_wide (word_within (2 ^ (8 * bytes_of width - 1)) (2 ^ (8 * bytes_of width) - 1) number)
 
@@ -52,7 +52,7 @@ operand_from width None None = None
 unfoldable pub operand : Width → List ℕ → Option (Operand × List ℕ)
 operand width bytes = operand_from width (number (after_sign 36 bytes)) (name (after_sign 36 bytes))
 
--- D: as V; it may be absent in front of `(`, and is 0 then
+-- D: like V; it may be missing before `(`, and is then 0
 unfoldable pub displacement : List ℕ → Option (Operand × List ℕ)
 displacement bytes = if next_is 40 bytes then Some (operands.Word 0, bytes) else operand Eight bytes
 
@@ -104,7 +104,7 @@ directive_operand directives.Position bytes = position_operand bytes
 directive_operand directives.Align bytes = align_operand bytes
 directive_operand (directives.Data width) bytes = data_operand width bytes
 
--- an instruction; 15 stands for a register field that is not used
+-- an instruction; 15 marks a register field that is not used
 abbrev pub instruction : Operation → ℕ → ℕ → Operand → Statement
 instruction operation a b constant = statements.Instruction operation.icode operation.ifun a b constant
 
@@ -178,7 +178,7 @@ statement_from variant bytes None = instruction_text variant bytes
 unfoldable pub statement : Variant → List ℕ → Option (Statement × List ℕ)
 statement variant bytes = statement_from variant bytes (directive bytes)
 
--- an optional label is a name with `:` behind it
+-- an optional label is a name followed by `:`
 abbrev pub label_with : List ℕ → List ℕ → Option (List ℕ) → Option (List ℕ) × List ℕ
 label_with bytes word None = (None, bytes)
 label_with bytes word (Some behind) = (Some word, behind)
@@ -195,7 +195,7 @@ unfoldable pub last_statement : Variant → List ℕ → Option Statement
 last_statement variant bytes =
     if ends bytes then Some statements.Nothing else (statement variant bytes >>= (λ s. if ends s.1 then Some s.0 else None))
 
--- a line of the form
+-- a well-formed line
 unfoldable pub line : Variant → List ℕ → Option Parsed
 line variant bytes = do
   s ← last_statement variant (label bytes).1
@@ -220,6 +220,6 @@ abbrev pub checked : Option Parsed → Result Parsed AsmWhy
 checked None = Err Syntax
 checked (Some parsed) = if is_wide parsed.statement then Err NumberTooWide else Ok parsed
 
--- what a line says, or the fault that it has by itself
+-- the content of a line, or its fault of its own, which needs no other lines
 unfoldable pub read_line : Variant → List ℕ → Result Parsed AsmWhy
 read_line variant bytes = if bad_outside 0 bytes then Err BadByte else checked (line variant bytes)

@@ -1,4 +1,4 @@
--- What follows from the definition of an assembled source, in the words of its reader.
+-- What a user may conclude from the definition of an assembled source.
 use Rattle.std.specs.Prelude.{◌≡◌, ℕ, ◌+◌, ◌-◌, ◌<◌, Bool, true, false, ◌&&◌, ◌||◌, ◌==◌, not, nat_le, nat_lt, List, ◌∷◌, ◌++◌, length, drop, fold, replicate, slice_index, Option, Some, None, is_none, unwrap_or, Ok, Err, is_ok, ◌%◌, ◌≤◌, map, slice_range}
 use Rattle.std.specs.List.{list_all, list_any}
 use Rattle.y86_base.specs.declared.parts.Variant.{Variant}
@@ -16,7 +16,8 @@ use Rattle.yas_asm.specs.Comments.{close_length, comment_length, is_good, bad_ou
 use Rattle.yas_asm.specs.Grammar.{is_wide, line, read_line}
 use Rattle.yas_asm.specs.Assembly.{Placed, source_lines, width_of, place, address_after, labels, label_of, filled, names_wide, names_unknown, is_defined, is_past_limit, overlaps, fault_behind, assembled, next_multiple, bytes_at}
 
--- what `close_length` finds is the first `*/`: one stands where it says, and it says none further behind than any that stands there
+-- `close_length` finds the first `*/`: there is one at the place it gives, and that place is no later than any other
+-- `*/`
 pub record CloseIsFirst : Type 0 where
   pub there :
       (text : List ℕ) → 0 < close_length text → (2 ≤ close_length text) × (drop (close_length text - 2) text ≡ 42 ∷ 47 ∷ drop (close_length text) text)
@@ -27,8 +28,8 @@ pub record CloseIsFirst : Type 0 where
 abbrev pub begins_no_comment : ℕ → Bool
 begins_no_comment byte = not (byte == 35) && not (byte == 47)
 
--- what the sweep for bad bytes comes to: a comment is passed as a whole and any other byte by itself; so a line of good bytes has no bad
--- one outside its comments, and a bad byte in front of which neither `#` nor `/` stands is one
+-- what the sweep for bad bytes amounts to: it passes a comment as a whole, and any other byte by itself. So a line of
+-- good bytes has no bad byte outside its comments, and a bad byte is found if neither `#` nor `/` precedes it
 pub record SweepPassesComments : Type 0 where
   pub comment : (text : List ℕ) → 0 < comment_length text → bad_outside 0 text ≡ bad_outside 0 (drop (comment_length text) text)
   pub plain : (byte : ℕ) (bytes : List ℕ) → comment_length (byte ∷ bytes) ≡ 0 → bad_outside 0 (byte ∷ bytes) ≡ (not (is_good byte) || bad_outside 0 bytes)
@@ -37,7 +38,8 @@ pub record SweepPassesComments : Type 0 where
       (before after : List ℕ) (byte : ℕ) → list_all begins_no_comment before ≡ true → is_good byte ≡ false
       → bad_outside 0 (before ++ byte ∷ after) ≡ true
 
--- the lines of a source have its texts, each is read by itself, the first stands at address 0, and each other where the line before it leads
+-- the lines of a source have its texts; each is read by itself; the first is at address 0, and each other where the
+-- line before it leads
 pub record LinesFollow : Type 0 where
   pub texts : (variant : Variant) (source : List ℕ) (size : ℕ) → map (λ line. line.text) (source_lines variant size source) ≡ lines source
   pub reads :
@@ -48,7 +50,7 @@ pub record LinesFollow : Type 0 where
       (variant : Variant) (source : List ℕ) (size : ℕ) (before after : List Placed) (line other : Placed) → source_lines variant size source ≡ before ++ line ∷ other ∷ after
       → other.address ≡ address_after variant size line.address line.read
 
--- the fault of a source's line by the labels of the whole source and by the lines before it
+-- the fault of a source's line, given the labels of the whole source and the lines before it
 abbrev pub fault_of : Variant → ℕ → List ℕ → List Placed → Placed → Option AsmWhy
 fault_of variant size source before line = fault_behind variant size (labels (source_lines variant size source)) before line
 
@@ -57,12 +59,12 @@ abbrev pub IsFaultless : Variant → ℕ → List ℕ → Type 0
 IsFaultless variant size source =
     (before after : List Placed) (line : Placed) → source_lines variant size source ≡ before ++ line ∷ after → fault_of variant size source before line ≡ None
 
--- a source is accepted exactly where no line has a fault
+-- a source is accepted exactly if no line has a fault
 pub record AcceptedWithoutFault : Type 0 where
   pub none : (variant : Variant) (source : List ℕ) (size : ℕ) (listing : List Line) → assembled variant source size ≡ Ok listing → IsFaultless variant size source
   pub accepted : (variant : Variant) (source : List ℕ) (size : ℕ) → IsFaultless variant size source → is_ok (assembled variant source size) ≡ true
 
--- a fault is that of a line before which no line has one, and tells the line's number and its reason
+-- the reported fault belongs to the first line with a fault, and gives this line's number and reason
 pub record IsFirstFault (variant : Variant) (size : ℕ) (source : List ℕ) (fault : AsmFault) : Type 0 where
   pub before : List Placed
   pub line : Placed
@@ -76,7 +78,7 @@ abbrev pub FirstFaultIsReported : Type 0
 FirstFaultIsReported =
     (variant : Variant) (source : List ℕ) (size : ℕ) (fault : AsmFault) → assembled variant source size ≡ Err fault → IsFirstFault variant size source fault
 
--- the reasons in the order in which they are told
+-- the reasons in the order in which they are reported
 abbrev pub rank : AsmWhy → ℕ
 rank Syntax = 1
 rank BadByte = 2
@@ -88,7 +90,7 @@ rank Overlap = 7
 rank LabelLimit = 8
 rank Memory = 9
 
--- where a reason holds of a line of the form, with the labels of the source and the lines before it
+-- a reason applies to a well-formed line, given the labels of the source and the lines before it
 abbrev pub holds_of : Variant → ℕ → List (List ℕ × ℕ) → List Placed → ℕ → Parsed → AsmWhy → Bool
 holds_of variant size table before address parsed NumberTooWide = is_wide parsed.statement || names_wide table parsed.statement
 holds_of variant size table before address parsed LabelTwice = is_defined (labels before) parsed.label
@@ -98,7 +100,7 @@ holds_of variant size table before address parsed Overlap = overlaps (filled var
 holds_of variant size table before address parsed LabelLimit = is_past_limit (labels before) parsed.label
 holds_of variant size table before address parsed _ = false
 
--- and of any line, where `bad` tells of a byte that is not allowed, and `form` is what a line of the form says
+-- and to any line: `bad` says that it has a byte that is not allowed, and `form` is its content if it is well-formed
 abbrev pub holds : Variant → ℕ → List (List ℕ × ℕ) → List Placed → ℕ → Bool → Option Parsed → AsmWhy → Bool
 holds variant size table before address true form BadByte = true
 holds variant size table before address true form _ = false
@@ -106,12 +108,12 @@ holds variant size table before address false None Syntax = true
 holds variant size table before address false None _ = false
 holds variant size table before address false (Some parsed) why = holds_of variant size table before address parsed why
 
--- the least of the reasons that hold
+-- the first of the reasons that apply
 abbrev pub IsLeast : (AsmWhy → Bool) → Option AsmWhy → Type 0
 IsLeast test None = (why : AsmWhy) → test why ≡ false
 IsLeast test (Some why) = (test why ≡ true) × ((other : AsmWhy) → test other ≡ true → rank why ≤ rank other)
 
--- of the reasons that hold of a line the least is its fault
+-- the fault of a line is the first of the reasons that apply to it
 abbrev pub LeastReasonIsReported : Type 0
 LeastReasonIsReported =
     (variant : Variant) (source : List ℕ) (size : ℕ) (before after : List Placed) (here : Placed) → source_lines variant size source ≡ before ++ here ∷ after
@@ -126,7 +128,7 @@ LabelsAreAddresses =
     → source_lines variant size source ≡ before ++ line ∷ after → label_of line.read ≡ Some name
     → meaning_of (labels (source_lines variant size source)) name ≡ Some line.address
 
--- the first line of a source that has a label stands at an address
+-- the first line of a source with a label is at an address
 pub record IsLabelled (all : List Placed) (name : List ℕ) (address : ℕ) : Type 0 where
   pub before : List Placed
   pub line : Placed
@@ -136,14 +138,14 @@ pub record IsLabelled (all : List Placed) (name : List ℕ) (address : ℕ) : Ty
   pub at : line.address ≡ address
   pub first : (front rest : List Placed) (other : Placed) → before ≡ front ++ other ∷ rest → label_of other.read ≡ Some name → ⊥
 
--- and in every source each label with a value is that of its first line, at this line's address
+-- and in every source each label with a value belongs to its first line, and is this line's address
 abbrev pub LabelsAreOfLines : Type 0
 LabelsAreOfLines =
     (variant : Variant) (source : List ℕ) (size : ℕ) (name : List ℕ) (address : ℕ)
     → meaning_of (labels (source_lines variant size source)) name ≡ Some address → IsLabelled (source_lines variant size source) name address
 
--- what a line that says this shows at an address: where `.pos` and `.align` lead, and else the address, where it has a label or a statement;
--- a number outside its bounds is in no listing
+-- the address that a line with this content shows: where `.pos` and `.align` lead, and else its address, if it has a
+-- label or a statement; no listing has a number outside its bounds
 abbrev pub ShowsAddress : Option (List ℕ) → ℕ → Statement → Option ℕ → Type 0
 ShowsAddress label address (statements.Position n) shown = shown ≡ Some n
 ShowsAddress label address (statements.Align n) shown = shown ≡ Some (next_multiple n address)
@@ -153,7 +155,7 @@ ShowsAddress None address statements.Nothing shown = shown ≡ None
 ShowsAddress (Some name) address statements.Nothing shown = shown ≡ Some address
 ShowsAddress label address statements.Wide shown = ⊥
 
--- a line of a listing is that of the line of this number in its source: it shows what that line says, and has its bytes
+-- a line of a listing belongs to the source line with this number: it shows what that line says, and has its bytes
 pub record IsShown (variant : Variant) (size : ℕ) (source : List ℕ) (number : ℕ) (line : Line) : Type 0 where
   pub before : List Placed
   pub placed : Placed
@@ -165,7 +167,7 @@ pub record IsShown (variant : Variant) (size : ℕ) (source : List ℕ) (number 
   pub shows : ShowsAddress parsed.label placed.address parsed.statement line.addr
   pub bytes : line.bytes.items ≡ bytes_at (labels (source_lines variant size source)) parsed.statement
 
--- each line of an accepted source's listing is that of the line in its place
+-- each line of an accepted source's listing belongs to the source line in the same place
 abbrev pub LinesShow : Type 0
 LinesShow =
     (variant : Variant) (source : List ℕ) (size : ℕ) (listing : List Line) → assembled variant source size ≡ Ok listing
@@ -186,12 +188,12 @@ BytesHaveOneLine =
     → (before between after : List Line) (one other : Line) (address : ℕ) → listing ≡ before ++ one ∷ (between ++ other ∷ after)
     → emits one address ≡ true → emits other address ≡ true → ⊥
 
--- a memory with the bytes of a line put at its address
+-- memory with the bytes of a line stored at its address
 abbrev pub put_at : Option ℕ → List ℕ → List ℕ → List ℕ
 put_at None bytes memory = memory
 put_at (Some first) bytes memory = with_bytes memory first bytes
 
--- the memory image of a listing: zeros, and line after line the bytes put over them
+-- the memory image of a listing: zeros, over which the bytes are stored line after line
 unfoldable pub image : ℕ → List Line → List ℕ
 image size listing = fold (λ memory line. put_at line.addr line.bytes.items memory) (replicate size 0) listing
 
@@ -215,7 +217,7 @@ AlignIsLeast =
     (n address : ℕ) → 0 < n
     → (next_multiple n address % n ≡ 0) × (address ≤ next_multiple n address) × ((m : ℕ) → m % n ≡ 0 → address ≤ m → next_multiple n address ≤ m)
 
--- the listing of an accepted source says where the text of each of its lines stands
+-- the listing of an accepted source says where in the source the text of each of its lines is
 abbrev pub TextsStandThere : Type 0
 TextsStandThere =
     (variant : Variant) (source : List ℕ) (size : ℕ) (listing : List Line) → assembled variant source size ≡ Ok listing

@@ -1,4 +1,4 @@
--- What a contract sees of a listing: its lines over a copy of the source.
+-- How contracts see a listing: its lines over a copy of the source.
 use Rattle.std.specs.Prelude.{ℕ, List}
 use Rattle.yas_asm.specs.declared.listing.Line.{Line}
 

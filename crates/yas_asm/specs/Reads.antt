@@ -1,12 +1,12 @@
--- What a reading function says: the thing read and the bytes behind it, or that nothing of its kind stands there.
+-- The result of a reading function: the thing read and the bytes after it, or None if there is no such thing.
 use Rattle.std.specs.Prelude.{◌≡◌, ℕ, List, Option, Some, None}
 
--- after a reading the bytes behind the thing are left; where nothing was read, no clause speaks of what is left
+-- after a successful reading the bytes after the thing are left; if nothing was read, no clause says what is left
 abbrev pub LeavesRest : {A : Type 0} → Option A → Option (A × List ℕ) → List ℕ → Type 0
 LeavesRest None said left = said ≡ None
 LeavesRest (Some thing) said left = said ≡ Some (thing, left)
 
--- the same for a sign, of which nothing is kept
+-- the same for a sign, which has no value
 abbrev pub LeavesRestOfSign : {A : Type 0} → Option A → Option (List ℕ) → List ℕ → Type 0
 LeavesRestOfSign None said left = said ≡ None
 LeavesRestOfSign (Some _) said left = said ≡ Some left

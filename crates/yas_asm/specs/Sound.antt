@@ -1,4 +1,5 @@
--- What every statement of the language meets: its instruction is valid, and `.align` has a number that is at least 1.
+-- What holds for every statement of the language: its instruction is valid, and the number of an `.align` is at least
+-- 1.
 use Rattle.std.specs.Prelude.{◌≡◌, ℕ, ◌<◌}
 use Rattle.y86_base.specs.declared.parts.Variant.{Variant}
 use Rattle.y86_isa.specs.Encoding.{IsValid}
@@ -6,7 +7,7 @@ use Rattle.yas_asm.specs.declared.statement.Operand.TheVariants.{Word}
 use Rattle.yas_asm.specs.declared.statement.Statement.{Statement}
 use Rattle.yas_asm.specs.declared.statement.Statement.TheVariants as statements
 
--- an instruction is valid whatever its constant stands for; where it has none, that is the number 0
+-- an instruction is valid whatever value its constant has; if it has no constant, the value is 0
 abbrev pub IsSound : Variant → Statement → Type 0
 IsSound variant (statements.Instruction icode ifun a b constant) =
     (value : ℕ) → (constant ≡ Word 0 → value ≡ 0)

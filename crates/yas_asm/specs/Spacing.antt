@@ -1,4 +1,4 @@
--- Lines that differ in comments and blanks alone.
+-- Lines that differ only in comments and blanks.
 use Rattle.std.specs.Prelude.{◌≡◌, ℕ, Bool, true, ◌||◌, ◌==◌, if◌then◌else◌, List, [], ◌∷◌, map, Option, Result, Ok, Err}
 use Rattle.y86_base.specs.declared.parts.Variant.{Variant}
 use Rattle.y86_base.specs.Text.{begins, is_blank, lines}
@@ -11,8 +11,9 @@ use Rattle.yas_asm.specs.Assembly.{assembled}
 abbrev pub is_sign : ℕ → Bool
 is_sign byte = byte == 36 || byte == 44 || byte == 40 || byte == 41 || byte == 58
 
--- a line without its comment and with the blanks alone that keep its tokens apart: none at its ends and beside a sign, and else one
--- space. `close` says that none is wanted in front. A `/` that begins no last comment is in no line of the form, and nothing changes from it on
+-- a line without its comment, with only the blanks that keep its tokens apart: none at its ends and beside a sign, and
+-- else one space. `close` says that no blank is needed in front. A `/` that begins no last comment is in no well-formed
+-- line, and from it on nothing changes
 unfoldable pub squeezed : Bool → List ℕ → List ℕ
 squeezed close [] = []
 squeezed close (byte ∷ bytes) =
@@ -24,12 +25,13 @@ squeezed close (byte ∷ bytes) =
 abbrev pub place_of : Line → Option ℕ × List ℕ
 place_of line = (line.addr, line.bytes.items)
 
--- what a source comes to, its texts apart: the places of its lines, or its fault
+-- the result for a source without its texts: the places of its lines, or its fault
 abbrev pub places : Result (List Line) AsmFault → Result (List (Option ℕ × List ℕ)) AsmFault
 places (Ok listing) = Ok (map place_of listing)
 places (Err fault) = Err fault
 
--- two sources that differ in comments and blanks alone have the same addresses and bytes, line for line, or the same fault in the same line
+-- two sources that differ only in comments and blanks have the same addresses and bytes, line for line, or the same
+-- fault in the same line
 abbrev pub SpacingIsFree : Type 0
 SpacingIsFree =
     (variant : Variant) (size : ℕ) (one other : List ℕ) → map (squeezed true) (lines one) ≡ map (squeezed true) (lines other)

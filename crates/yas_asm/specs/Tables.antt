@@ -1,4 +1,5 @@
--- The fixed texts of the language: registers, directives and mnemonics. No register and no directive begins with another.
+-- The fixed words of the language: registers, directives and mnemonics. No directive is a prefix of another, nor is a
+-- register.
 use Rattle.std.specs.Prelude.{ℕ, List, [], ◌∷◌, ◌++◌, Option, codes}
 use Rattle.y86_base.specs.declared.parts.Variant.{Variant}
 use Rattle.y86_base.specs.declared.parts.Variant.TheVariants.{Base, Full}
@@ -41,11 +42,11 @@ base_mnemonics =
     ∷ (codes "jne", op Target 7 4) ∷ (codes "jge", op Target 7 5) ∷ (codes "jg", op Target 7 6) ∷ (codes "call", op Target 8 0)
     ∷ (codes "pushq", op Single 10 0) ∷ (codes "popq", op Single 11 0) ∷ []
 
--- those of an instruction set; `iaddq` is that of exercise 4.3
+-- the mnemonics of an instruction set; `iaddq` is that of practice problem 4.3
 abbrev pub mnemonics : Variant → List (List ℕ × Operation)
 mnemonics Base = base_mnemonics
 mnemonics Full = base_mnemonics ++ ((codes "iaddq", op Immediate 12 0) ∷ [])
 
--- what a name stands for as a mnemonic, if it is one
+-- the operation of a mnemonic, if the name is one
 unfoldable pub mnemonic : Variant → List ℕ → Option Operation
 mnemonic variant name = meaning_of (mnemonics variant) name

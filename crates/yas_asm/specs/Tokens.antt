@@ -1,5 +1,5 @@
--- The tokens of assembly text. Each reader skips the blanks in front of its token, reads the token as long as it goes and gives it
--- with the bytes behind it, or None where another thing stands there.
+-- The tokens of assembly text. Each reader skips the blanks in front of its token and reads the longest token. It
+-- returns the token with the bytes after it, or None if something else is there.
 use Rattle.std.specs.Prelude.{ℕ, nat_eq, codes, Bool, false, ◌&&◌, ◌||◌, ◌==◌, if◌then◌else◌, List, Option, Some, None, drop, take_while, unwrap_or}
 use Rattle.std.specs.List.{starts_with}
 use Rattle.y86_base.specs.declared.number.Number.{Number}
@@ -14,7 +14,7 @@ is_name_start byte = is_letter byte || byte == 95
 unfoldable pub sign : ℕ → List ℕ → Option (List ℕ)
 sign wanted bytes = after_byte wanted (behind is_blank bytes)
 
--- the bytes behind a sign that may be absent
+-- the bytes after a sign that may be missing
 unfoldable pub after_sign : ℕ → List ℕ → List ℕ
 after_sign wanted bytes = unwrap_or (sign wanted bytes) bytes
 
@@ -26,7 +26,7 @@ name_at text =
 unfoldable pub name : List ℕ → Option (List ℕ × List ℕ)
 name bytes = name_at (behind is_blank bytes)
 
--- `0x` with a hex digit behind it
+-- `0x` followed by a hex digit
 abbrev pub is_hex_number : List ℕ → Bool
 is_hex_number text = starts_with nat_eq text (codes "0x") && begins is_hex (drop 2 text)
 

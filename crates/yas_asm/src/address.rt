@@ -1,4 +1,4 @@
-//! Addresses: how many bytes a statement emits, and where it leads.
+//! Addresses: the number of bytes of a statement, and the address to which it leads.
 ghost use Rattle.std.specs.Prelude.{◌≡◌, ◌<◌, IfOk};
 ghost use Rattle.y86_base.specs.Text.{below_word};
 ghost use Rattle.yas_asm.specs.Grammar as grammar;
@@ -21,7 +21,7 @@ pub fn bytes_of(width: Width) -> u64
     }
 }
 
-/// How many bytes a statement emits.
+/// The number of bytes that a statement emits.
 #[tactic(auto, unfolding(crate::specs::Assembly::width_of))]
 pub fn width_of(variant: Variant, statement: &Statement) -> u64
     ensures { result ≡ assembly.width_of variant statement.now }
@@ -33,7 +33,7 @@ pub fn width_of(variant: Variant, statement: &Statement) -> u64
     }
 }
 
-/// The least multiple of a number that is not below an address, where it is below 2^64.
+/// The least multiple of a number that is not below an address, if it is below 2^64.
 fn next_multiple(number: u64, address: u64) -> Option<u64>
     requires { 0 < number }
     ensures { result ≡ below_word (assembly.next_multiple number address) }
@@ -45,7 +45,7 @@ fn next_multiple(number: u64, address: u64) -> Option<u64>
     address.checked_add(number - past)
 }
 
-/// Where a statement at an address leads, where that is below 2^64.
+/// The address to which a statement leads, if it is below 2^64.
 #[tactic(auto, unfolding(crate::specs::Assembly::destination))]
 fn destination(variant: Variant, address: u64, statement: &Statement) -> Option<u64>
     requires { IsSound variant statement.now }
@@ -62,7 +62,7 @@ fn destination(variant: Variant, address: u64, statement: &Statement) -> Option<
     }
 }
 
-/// The address behind a statement; None where it goes past the size.
+/// The address after a statement; None if it is past the size.
 #[tactic(auto, unfolding(crate::specs::Assembly::place))]
 pub fn place(variant: Variant, size: u64, address: u64, statement: &Statement) -> Option<u64>
     requires { IsSound variant statement.now }
@@ -72,7 +72,7 @@ pub fn place(variant: Variant, size: u64, address: u64, statement: &Statement) -
     if behind <= size { Some(behind) } else { None }
 }
 
-/// The address behind a line.
+/// The address after a line; a line with a fault leaves it unchanged.
 #[tactic(auto, unfolding(crate::specs::Assembly::address_after))]
 pub fn address_after(
     variant: Variant,

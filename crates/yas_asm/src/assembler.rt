@@ -1,4 +1,4 @@
-//! Assembles a source: the call.
+//! The call that assembles a source.
 ghost use Rattle.std.specs.Prelude.{◌≡◌, IfOk};
 ghost use Rattle.yas_asm.specs.Assembly.{assembled};
 ghost use Rattle.yas_asm.specs.Outcome.{GivesOrFaults};
@@ -11,15 +11,15 @@ use crate::passes::{collect_labels, emit};
 use std::alloc::Global;
 use y86_base::Variant;
 
-/// What is told where an allocation was refused.
+/// The fault that is reported if an allocation was refused.
 const NO_MEMORY: AsmFault = AsmFault {
     line: 0,
     why: AsmWhy::Memory,
 };
 
-/// Assembles a source for a memory of `size` bytes: its listing, or the first line with a fault and the least
+/// Assembles a source for a memory of `size` bytes: returns its listing, or the first line with a fault and the first
 /// reason there. The language is that of CS:APP 3e, section 4.1.5 and figure 4.7, with data directives of one, two,
-/// four and eight bytes. Any size is taken; after a refusal nothing is kept.
+/// four and eight bytes. Any size is accepted; after a refusal nothing is kept.
 pub fn assemble(alloc: Global, v: Variant, src: &[u8], size: u64) -> Result<Listing, AsmFault>
     ensures lines { GivesOrFaults lines_of result (assembled v src.now size) }
     ensures source { IfOk result (λ listing. listing.source ≡ src.now) }

@@ -12,7 +12,7 @@ use arrayvec::ArrayVec;
 use y86_base::Variant;
 use y86_isa::{Instr, encode};
 
-/// The number that an operand stands for; 0 for a label that is not defined.
+/// The number that an operand means; 0 for a label that is not defined.
 #[tactic(auto, unfolding(crate::specs::Assembly::value_of))]
 fn value_of(labels: &Labels, operand: &Operand) -> u64
     ensures { result ≡ assembly.value_of labels.now operand.now }
@@ -24,7 +24,7 @@ fn value_of(labels: &Labels, operand: &Operand) -> u64
     }
 }
 
-/// A number in some bytes, the lowest first.
+/// The lowest bytes of a number, as many as the width has, the lowest first.
 fn data(width: Width, value: u64) -> ArrayVec<u8, 10>
     ensures { result.items ≡ take (grammar.bytes_of width) (to_le_bytes w64 value) }
 {

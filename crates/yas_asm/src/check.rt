@@ -1,4 +1,4 @@
-//! The fault of a statement, in the order of the reasons.
+//! The fault of a statement: the first reason that applies.
 ghost use Rattle.std.specs.Prelude.{◌≡◌};
 ghost use Rattle.yas_asm.specs.Assembly as assembly;
 ghost use Rattle.yas_asm.specs.Sound.{IsSound};
@@ -66,7 +66,7 @@ fn is_defined(known: &Labels, label: &Option<Name>) -> bool
     }
 }
 
-/// Whether a line's label is one more than there may be.
+/// Whether a line's label is beyond the largest number of labels.
 fn is_past_limit(known: &Labels, label: &Option<Name>) -> bool
     ensures { result ≡ assembly.is_past_limit known.now label.now }
 {
@@ -76,8 +76,8 @@ fn is_past_limit(known: &Labels, label: &Option<Name>) -> bool
     }
 }
 
-/// What the second pass knows before its first line: the instruction set, the size of the memory, and the labels that the
-/// first pass collected.
+/// What is fixed before the second pass: the instruction set, the size of the memory, and the labels that the first
+/// pass collected.
 #[derive(Clone, Copy)]
 pub struct SecondPass<'a> {
     pub variant: Variant,
@@ -85,7 +85,7 @@ pub struct SecondPass<'a> {
     pub labels: &'a Labels,
 }
 
-/// The least fault of a line of the form.
+/// The first fault of a well-formed line.
 #[tactic(auto, unfolding(crate::specs::Assembly::statement_fault))]
 pub fn statement_fault(
     pass: &SecondPass,

@@ -1,10 +1,10 @@
-//! Comments, and bytes that may not stand outside of them.
+//! Comments, and bytes that may not occur outside them.
 ghost use Rattle.std.specs.Prelude.{◌≡◌, false, drop, ◌≤◌, length};
 ghost use Rattle.yas_asm.specs.Comments as comments;
 
 use y86_base::is_blank;
 
-/// How many bytes there are up to the first `*/` and with it; 0 where none stands there.
+/// The number of bytes up to and including the first `*/`; 0 if there is none.
 #[tactic(auto, unfolding(crate::specs::Comments::close_length))]
 fn close_length(text: &[u8]) -> usize
     ensures count { result ≡ comments.close_length text.now }
@@ -22,7 +22,7 @@ fn close_length(text: &[u8]) -> usize
     0
 }
 
-/// How many bytes the comment in front has; 0 where none begins there.
+/// The length in bytes of the comment in front; 0 if none begins there.
 #[tactic(auto, unfolding(crate::specs::Comments::comment_length))]
 pub fn comment_length(text: &[u8]) -> usize
     ensures count { result ≡ comments.comment_length text.now }
@@ -46,7 +46,7 @@ fn is_good(byte: u8) -> bool
     is_blank(byte) || (0x21 <= byte && byte <= 0x7e)
 }
 
-/// As `comment_length`, in less time where it is known that no `*/` stands behind.
+/// As `comment_length`, in less time if no `*/` is known to follow.
 #[tactic(auto, unfolding(crate::specs::Comments::comment_length))]
 fn known_length(text: &[u8], closes: bool) -> usize
     requires { closes ≡ false → comments.close_length (drop 2 text.now) ≡ 0 }
@@ -59,7 +59,7 @@ fn known_length(text: &[u8], closes: bool) -> usize
     comment_length(text)
 }
 
-/// Whether a `*/` may stand further behind, where no comment begins here.
+/// Whether a `*/` may follow further on, if no comment begins here.
 #[tactic(auto, unfolding(crate::specs::Comments::comment_length), using(crate::proofs::CommentLemmas::no_close_behind))]
 fn still_closes(text: &[u8], closes: bool) -> bool
     requires no_comment { comments.comment_length text.now ≡ 0 }
@@ -69,7 +69,7 @@ fn still_closes(text: &[u8], closes: bool) -> bool
     closes && !text.starts_with(b"/*")
 }
 
-/// Whether a byte that is not allowed stands outside the comments of a line.
+/// Whether a byte that is not allowed occurs outside the comments of a line.
 #[tactic(auto, using(crate::proofs::CommentLemmas::sweeps))]
 pub fn has_bad_byte(line: &[u8]) -> bool
     ensures { result ≡ comments.bad_outside 0 line.now }

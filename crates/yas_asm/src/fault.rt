@@ -1,17 +1,17 @@
-//! Why a source is refused, and where.
+//! Why and where a source is refused.
 use thiserror::Error;
 
-/// Why a source is refused. Of several reasons on one line the first in this order is told.
+/// Why a source is refused. If several reasons apply to a line, the assembler reports the first in this order.
 #[derive(Clone, Copy, Debug, PartialEq, Eq, Error)]
 pub enum AsmWhy {
-    /// The line is not of the form of the language, and no bad byte stands on it.
+    /// The line is not well-formed, and has no bad byte.
     #[error("Syntax")]
     Syntax,
-    /// A byte that is not a blank and not 0x21 to 0x7e stands outside a comment.
+    /// A byte that is not a blank and not 0x21 to 0x7e is outside a comment.
     #[error("BadByte")]
     BadByte,
-    /// A number, written or a label's value, is out of the bounds of its place: -2^63 to 2^64-1, and in a
-    /// directive of w bytes -2^(8w-1) to 2^(8w)-1.
+    /// A number, written or a label's value, is out of the bounds of its place: -2^63 to 2^64-1, or
+    /// -2^(8w-1) to 2^(8w)-1 in a directive of w bytes.
     #[error("NumberTooWide")]
     NumberTooWide,
     /// The line's label is defined on an earlier line.
@@ -34,7 +34,7 @@ pub enum AsmWhy {
     Memory,
 }
 
-/// The first line with a fault, counted from 1, and the reason. For want of memory the line is 0.
+/// The first line with a fault, counted from 1, and the reason. If memory runs out, the line is 0.
 #[derive(Clone, Copy, Debug, PartialEq, Eq, Error)]
 #[error("{line}: {why}")]
 pub struct AsmFault {

@@ -1,4 +1,4 @@
-//! Reads the statement of a line.
+//! Reads the label and the statement of a line.
 ghost use Rattle.yas_asm.specs.Sound.{IsSound};
 ghost use Rattle.std.specs.Prelude.{IfOk, ◌≡◌, ◌*◌, ◌-◌, ◌^◌};
 ghost use Rattle.yas_asm.specs.Grammar as grammar;
@@ -12,7 +12,7 @@ use crate::statement::{Directive, Operand, Operation, Parsed, Shape, Statement, 
 use crate::tables::mnemonics;
 use y86_base::{Number, Variant, meaning_of};
 
-/// The greatest number that a width holds.
+/// The greatest number that fits a width.
 pub fn greatest(width: Width) -> u64
     ensures { result ≡ 2 ^ (8 * grammar.bytes_of width) - 1 }
 {
@@ -24,7 +24,7 @@ pub fn greatest(width: Width) -> u64
     }
 }
 
-/// The magnitude of the least number that a width holds.
+/// The magnitude of the least number that fits a width.
 fn least_magnitude(width: Width) -> u64
     ensures { result ≡ 2 ^ (8 * grammar.bytes_of width - 1) }
 {
@@ -59,7 +59,7 @@ fn operand<'a>(reader: &mut Reader<'a>, width: Width) -> Option<Operand<'a>>
     Some(Operand::Label(reader.name()?))
 }
 
-/// The operand in front of a `(`, and 0 where none stands there.
+/// The operand before a `(`; 0 if there is none.
 #[tactic(auto, unfolding(crate::specs::Grammar::displacement))]
 fn displacement<'a>(reader: &mut Reader<'a>) -> Option<Operand<'a>>
     ensures { LeavesRest result (grammar.displacement reader.old) reader.new }
@@ -82,7 +82,7 @@ fn memory<'a>(reader: &mut Reader<'a>) -> Option<(Operand<'a>, u8)>
     Some((displacement, base))
 }
 
-/// A number that is not negative; None inside for one of 2^64 or more.
+/// A number that is not negative; the inner None means one of 2^64 or more.
 #[tactic(auto, unfolding(crate::specs::Grammar::natural))]
 fn natural(reader: &mut Reader) -> Option<Option<u64>>
     ensures { LeavesRest result (grammar.natural reader.old) reader.new }
@@ -135,7 +135,7 @@ fn directive_operand<'a>(reader: &mut Reader<'a>, directive: Directive) -> Optio
     }
 }
 
-/// An instruction; 15 stands for a register field that is not used.
+/// An instruction; 15 marks a register field that is not used.
 fn instruction<'a>(operation: Operation, r_a: u8, r_b: u8, constant: Operand<'a>) -> Statement<'a>
     ensures { result ≡ grammar.instruction operation r_a r_b constant.entry }
 {
@@ -262,7 +262,7 @@ fn last_statement<'a>(reader: &mut Reader<'a>, variant: Variant) -> Option<State
     if reader.ends() { Some(statement) } else { None }
 }
 
-/// A line of the form.
+/// A well-formed line.
 #[tactic(auto, unfolding(crate::specs::Grammar::line))]
 fn line(variant: Variant, bytes: &[u8]) -> Option<Parsed<'_>>
     ensures { result ≡ grammar.line variant bytes.now }
@@ -292,7 +292,7 @@ fn is_wide(statement: &Statement) -> bool
     }
 }
 
-/// What a line says, or the fault that it has by itself.
+/// The content of a line, or its fault of its own, which needs no other lines.
 #[tactic(auto, unfolding(crate::specs::Grammar::read_line))]
 pub fn read_line(variant: Variant, bytes: &[u8]) -> Result<Parsed<'_>, AsmWhy>
     ensures value { result ≡ grammar.read_line variant bytes.now }

@@ -1,4 +1,4 @@
-//! The labels of a source.
+//! The labels of a source, with their addresses.
 ghost use Rattle.std.specs.Prelude.{◌≡◌, ◌∷◌, ◌++◌, [], length, map, OnOk, None};
 ghost use Rattle.yas_asm.specs.LabelMap.{named};
 ghost use Rattle.y86_base.specs.Keyword.{meaning_of};
@@ -8,7 +8,7 @@ use indexmap::IndexMap;
 use std::alloc::{AllocError, Global};
 use std::marker::Model;
 
-/// How many labels there may be.
+/// The largest number of labels.
 pub const LABEL_LIMIT: usize = 65_535;
 
 /// The table of labels by their names.
@@ -22,7 +22,7 @@ fn find(table: &Table, name: &[u8]) -> Option<u64>
     table.get(name).copied()
 }
 
-/// Puts a name that is not there into a table.
+/// Puts a name that isn't in a table into it.
 fn put(table: &mut Table, name: Vec<u8>, address: u64) -> Result<(), AllocError>
     requires { meaning_of (map named table.old.entries) name.items ≡ None }
     ensures { OnOk result (map named table.new.entries ≡ map named table.old.entries ++ (name.items, address) ∷ []) }
@@ -70,7 +70,7 @@ impl Labels {
         find(&self.table, name)
     }
 
-    /// Defines a label, unless it is defined already or there are as many as there may be.
+    /// Defines a label, unless it is defined already or the number of labels is at its limit.
     #[tactic(auto, unfolding(crate::specs::Assembly::with_name))]
     pub fn define(&mut self, alloc: Global, name: &[u8], address: u64) -> Result<(), AllocError>
         ensures { OnOk result (self.new ≡ assembly.with_name self.old name.now address) }

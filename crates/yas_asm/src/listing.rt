@@ -1,4 +1,4 @@
-//! Listings: the lines of an assembled source.
+//! Listings: the lines of an assembled source, with their addresses and bytes.
 ghost use Rattle.std.specs.Prelude.{◌≡◌};
 
 use arrayvec::ArrayVec;
@@ -7,14 +7,14 @@ use std::marker::Model;
 /// A line of a listing.
 #[derive(Drop)]
 pub struct Line {
-    /// The address that the line shows: that before its statement, or the one that `.pos` or `.align` sets. None where the line has
-    /// neither a label nor a statement.
+    /// The address that the line shows: the one before its statement, or the one that `.pos` or `.align` sets. None if
+    /// the line has neither a label nor a statement.
     pub addr: Option<u64>,
     /// The bytes that the line emits, from its address on.
     pub bytes: ArrayVec<u8, 10>,
     /// Where the line's text begins in the source, in bytes.
     pub from: u64,
-    /// Where the line's text ends in the source, its line feed apart.
+    /// Where the line's text ends in the source, without its line feed.
     pub to: u64,
 }
 
@@ -34,7 +34,7 @@ impl Model for Listing {
 }
 
 impl Listing {
-    /// A listing of some lines of a source.
+    /// A listing with these lines of a source.
     pub(crate) fn new(lines: Vec<Line>, source: Vec<u8>) -> Listing
         ensures lines { result.lines ≡ lines.items }
         ensures source { result.source ≡ source.items }

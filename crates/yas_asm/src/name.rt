@@ -1,4 +1,4 @@
-//! Names of a source.
+//! Names of a source, that is, labels and mnemonics.
 ghost use Rattle.std.specs.Prelude.{◌≡◌, List, ℕ};
 
 use std::marker::Model;
@@ -16,7 +16,7 @@ impl<'a> Model for Name<'a> {
 }
 
 impl<'a> Name<'a> {
-    /// A name of these bytes.
+    /// A name with these bytes.
     pub fn new(bytes: &'a [u8]) -> Name<'a>
         ensures { result ≡ bytes.now }
     {

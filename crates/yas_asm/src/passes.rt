@@ -1,4 +1,4 @@
-//! The two passes: labels are collected, and bytes emitted.
+//! The two passes: the first collects labels, the second emits bytes.
 ghost use Rattle.std.specs.Prelude.{◌≡◌, ◌+◌, ◌++◌, ◌<◌, ◌^◌, IfOk, OnOk};
 ghost use Rattle.yas_asm.specs.Assembly as assembly;
 ghost use Rattle.yas_asm.specs.Outcome.{StopsWith, GivesOrFaults, line_for};
@@ -19,7 +19,7 @@ use arrayvec::ArrayVec;
 use std::alloc::{AllocError, Global};
 use y86_base::{Variant, first_line};
 
-/// What a line of the form or a line with a fault of its own is read as.
+/// The content of a well-formed line, or the fault of another.
 type ParseResult<'a> = Result<Parsed<'a>, AsmWhy>;
 
 /// Defines the label of a line, if it has one.
@@ -37,7 +37,7 @@ fn define(
     Ok(())
 }
 
-/// Defines the label of a line, if it has one and no fault by itself.
+/// Defines the label of a line, if it has one and the line has no fault of its own.
 fn define_read(
     alloc: Global,
     labels: &mut Labels,
@@ -74,7 +74,7 @@ pub fn collect_labels(
     Ok(table)
 }
 
-/// Enters a line of the form into the labels and addresses of the lines before it, unless it has a fault.
+/// Adds a well-formed line to the labels and addresses of the lines before it, unless it has a fault.
 fn enter(
     alloc: Global,
     pass: &SecondPass,
@@ -102,7 +102,7 @@ fn enter(
     }
 }
 
-/// Enters a line into the labels and addresses of the lines before it, unless it has a fault.
+/// Adds a line to the labels and addresses of the lines before it, unless it has a fault.
 #[tactic(auto, unfolding(crate::specs::Assembly::line_fault))]
 fn enter_read(
     alloc: Global,
@@ -123,7 +123,7 @@ fn enter_read(
     }
 }
 
-/// The address that a line of the form shows.
+/// The address that a well-formed line shows.
 fn shown(variant: Variant, size: u64, address: u64, parsed: &Parsed) -> Option<u64>
     requires { IsSound variant parsed.now.statement }
     ensures { result ≡ assembly.shown_at parsed.now.label address (assembly.place variant size address parsed.now.statement) parsed.now.statement }
@@ -160,7 +160,7 @@ fn listed(pass: &SecondPass, from: u64, to: u64, address: u64, read: &ParseResul
     }
 }
 
-/// The fault of the line behind some lines.
+/// The fault of the line after the first `passed` lines.
 fn fault(passed: u64, why: AsmWhy) -> AsmFault
     requires { passed + 1 < 2 ^ 64 }
     ensures why { result.why ≡ why }
@@ -173,7 +173,7 @@ fn fault(passed: u64, why: AsmWhy) -> AsmFault
     AsmFault { line, why }
 }
 
-/// The listing of a source with its labels, or the first line with a fault.
+/// The listing of a source, given its labels, or the first line with a fault.
 pub fn emit(alloc: Global, pass: &SecondPass, source: &[u8]) -> Result<Vec<Line>, AsmFault>
     ensures { GivesOrFaults items_of result
         (assembly.assembled_with pass.now.variant pass.now.size pass.now.labels.now (assembly.source_lines pass.now.variant pass.now.size source.now)) }

@@ -1,4 +1,4 @@
-//! What is left of a line as it is read.
+//! Reads the tokens of a line, one after another.
 ghost use Rattle.std.specs.Prelude.{IfNone, ◌≡◌, List, ℕ};
 ghost use Rattle.yas_asm.specs.Comments as comments;
 ghost use Rattle.yas_asm.specs.Tokens as tokens;
@@ -16,7 +16,7 @@ use y86_base::{
     Number, after_blanks, after_byte, is_blank, is_letter, keyword_at, register_names, split_name,
 };
 
-/// What is left of a line as it is read, seen as its bytes.
+/// The rest of a line as it is read, seen as its bytes.
 #[derive(Drop)]
 pub struct Reader<'a> {
     rest: &'a [u8],
@@ -37,7 +37,7 @@ fn is_name_start(byte: u8) -> bool
 }
 
 impl<'a> Reader<'a> {
-    /// A reader at the begin of a line.
+    /// A reader at the beginning of a line.
     pub fn new(line: &'a [u8]) -> Reader<'a>
         ensures { result ≡ line.now }
     {
@@ -67,7 +67,7 @@ impl<'a> Reader<'a> {
         Some(Name::new(bytes))
     }
 
-    /// Passes a sign that may be absent.
+    /// Skips a sign that may be missing.
     #[tactic(auto, unfolding(crate::specs::Tokens::after_sign, crate::specs::Tokens::sign))]
     pub fn skip_sign(&mut self, wanted: u8)
         ensures { self.new ≡ tokens.after_sign wanted self.old }
@@ -120,7 +120,7 @@ impl<'a> Reader<'a> {
         Some(directive)
     }
 
-    /// Reads a label, if one stands in front.
+    /// Reads a label, if there is one in front.
     #[tactic(auto, unfolding(crate::specs::Grammar::label))]
     pub fn label(&mut self) -> Option<Name<'a>>
         ensures { (result, self.new) ≡ grammar.label self.old }
@@ -135,7 +135,7 @@ impl<'a> Reader<'a> {
         None
     }
 
-    /// Whether the line ends here, a comment apart.
+    /// Whether the line ends here, apart from a comment.
     #[tactic(auto, unfolding(crate::specs::Comments::ends))]
     pub fn ends(&self) -> bool
         ensures { result ≡ comments.ends self.now }

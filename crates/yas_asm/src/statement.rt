@@ -1,7 +1,7 @@
 //! Statements of the assembly language.
 use crate::name::Name;
 
-/// How many bytes a number or a label is emitted in, the lowest first.
+/// The number of bytes in which a number or a label is emitted, the lowest first.
 #[derive(Clone, Copy, Debug)]
 pub enum Width {
     One,
@@ -29,7 +29,7 @@ pub enum Shape {
     Single,
 }
 
-/// What a mnemonic stands for: its operands and the first byte of its instruction (CS:APP 3e, figure 4.2).
+/// The operation of a mnemonic: its operands and the first byte of its instruction (CS:APP 3e, figure 4.2).
 #[derive(Clone, Copy, Debug)]
 pub struct Operation {
     pub shape: Shape,
@@ -37,7 +37,7 @@ pub struct Operation {
     pub ifun: u8,
 }
 
-/// What a directive asks for.
+/// What a directive does.
 #[derive(Clone, Copy, Debug)]
 pub enum Directive {
     Position,
@@ -73,13 +73,13 @@ pub enum Statement<'a> {
     },
     /// `.pos` with the address to go to.
     Position(u64),
-    /// `.align` with a number that is at least 1.
+    /// `.align` with a number of at least 1.
     Align(u64),
     /// `.pos` or `.align` with a number of 2^64 or more.
     Wide,
 }
 
-/// What a line of the form says.
+/// The content of a well-formed line.
 #[derive(Drop)]
 pub struct Parsed<'a> {
     pub label: Option<Name<'a>>,

@@ -33,7 +33,7 @@ static DIRECTIVES: [Keyword<Directive>; 6] = [
     },
 ];
 
-/// All mnemonics: the first 27 are those of `Base`, and the last is that of `Full` alone.
+/// All mnemonics: the first 27 are those of `Base`; only `Full` has the last.
 static MNEMONICS: [Keyword<Operation>; 28] = [
     Keyword {
         text: b"halt",

@@ -1,4 +1,4 @@
-//! The addresses that have a byte.
+//! The addresses to which bytes were emitted, so that no two lines emit to the same address.
 ghost use Rattle.std.specs.Prelude.{◌≡◌, ◌++◌, ◌∷◌, ◌+◌, ◌^◌, ◌<◌, [], OnOk};
 ghost use Rattle.std.specs.List.{list_any, range_with_len};
 ghost use Rattle.std.specs.Prelude.{false, nat_eq};
@@ -49,7 +49,7 @@ impl UsedRanges {
     }
 }
 
-/// Whether one of some bytes from an address on is at an address that has a byte.
+/// Whether at least one of `count` bytes from an address on is at an address that has a byte.
 #[tactic(auto, using(crate::proofs::UsedLemmas::overlapping))]
 pub fn overlaps(used: &UsedRanges, address: u64, count: u64) -> bool
     requires { address + count < 2 ^ 64 }
@@ -67,7 +67,7 @@ pub fn overlaps(used: &UsedRanges, address: u64, count: u64) -> bool
     false
 }
 
-/// Adds the addresses of some bytes from an address on, none of which has a byte yet.
+/// Adds the addresses of `count` bytes from an address on, none of which has a byte yet.
 #[tactic(auto, using(crate::proofs::UsedLemmas::adding))]
 pub fn add_range(used: &mut UsedRanges, address: u64, count: u64) -> Result<(), AllocError>
     requires fits { address + count < 2 ^ 64 }

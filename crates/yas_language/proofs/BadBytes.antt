@@ -1,4 +1,4 @@
--- The sweep for bad bytes finds one exactly where one stands outside the comments.
+-- The sweep for bad bytes finds one exactly if there is one outside the comments.
 use Rattle.std.proofs.Common.{◌≡◌, ◌⊎◌, inl, inr, ap, sym, ◌∙◌, ℕ, zero, suc, ◌<◌, ◌≤◌, Bool, true, false, List, [], ◌∷◌, length, drop, refl, arith, length-drop}
 use Rattle.std.specs.Prelude.{not, ◌||◌}
 use Rattle.std.proofs.lemmas.Bool.{false≢true}
@@ -34,7 +34,7 @@ zero_or : (n : ℕ) → (n ≡ 0) ⊎ (0 < n)
 zero_or zero = inl refl
 zero_or (suc n) = inr (omega arith)
 
--- where no comment begins, its length is 0
+-- if no comment begins here, its length is 0
 no_length : (text : List ℕ) → ((rest : List ℕ) → IsComment text rest → ⊥) → comment_length text ≡ 0
 no_length text none = by (zero_or (comment_length text))
   where

@@ -1,4 +1,4 @@
--- Comments as a relation.
+-- Comments as a relation, which agrees with the lengths that the assembler computes.
 use Rattle.std.proofs.Common.{◌≡◌, ap, sym, subst, ◌∙◌, ℕ, zero, suc, ◌+◌, ◌-◌, ◌<◌, ◌≤◌, Bool, true, false, cond, List, [], ◌∷◌, ◌++◌, length, take, drop, take_while, refl, arith, length-append, length-drop, length-take}
 use Rattle.std.specs.Prelude.{nat_eq, not, ◌&&◌, ◌||◌, ◌==◌, codes}
 use Rattle.std.specs.List.{list_all, starts_with}
@@ -13,7 +13,7 @@ use Rattle.yas_asm.specs.Comments.{close_length, comment_length, ends, ends_at}
 use Rattle.yas_laws.proofs.SweepLaw.{close_is_first}
 use Rattle.yas_language.specs.Tokens.{IsComment, hash, slashes, closed, IsEnd, plain, commented, NoClose}
 
--- a `*/` that stands at the front of a text with a star behind it
+-- no `*/` is at the front of the text before the first `*/`
 close_here : (byte : ℕ) (inside rest : List ℕ) → NoClose (byte ∷ (inside ++ 42 ∷ [])) → starts_with nat_eq (byte ∷ (inside ++ 42 ∷ 47 ∷ rest)) (codes "*/") ≡ false
 close_here byte [] rest none = by (nat_eq 42 byte)
   where
@@ -45,7 +45,7 @@ close_is (byte ∷ inside) rest none =
 drop_two : (n a b : ℕ) (t : List ℕ) → drop (2 + n) (a ∷ b ∷ t) ≡ drop n t
 drop_two n a b t = let e : 2 + n ≡ suc (suc n) = omega arith in ap (λ k. drop k (a ∷ b ∷ t)) e
 
--- a comment has a length, and what stands behind it
+-- a comment has a length, which gives the rest after it
 pub record IsMeasured (text rest : List ℕ) : Type 0 where
   pub some : 0 < comment_length text
   pub behind_is : drop (comment_length text) text ≡ rest
@@ -75,7 +75,7 @@ comment_measured _ _ (closed inside rest none) =
       behind_is = ap (λ k. drop k (47 ∷ 42 ∷ (inside ++ 42 ∷ 47 ∷ rest))) m ∙ drop_two (length inside + 2) 47 42 (inside ++ 42 ∷ 47 ∷ rest) ∙ behind_closed inside rest;
     }
 
--- the other way round: where a comment has a length it is one
+-- and conversely: a text in front that has a length as a comment is one
 body_of : (inner : List ℕ) → 0 < close_length inner → IsComment (47 ∷ 42 ∷ inner) (drop (close_length inner) inner)
 body_of inner some =
     let n = close_length inner in

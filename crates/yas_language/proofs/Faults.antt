@@ -1,4 +1,4 @@
--- A line's own faults come exactly where the language says so.
+-- A line's own faults are reported exactly if the language says so.
 use Rattle.std.proofs.Common.{◌≡◌, ap, sym, subst, ◌∙◌, ℕ, Bool, true, false, cond, List, Option, Some, None, Result, Ok, Err, refl}
 use Rattle.std.proofs.lemmas.Bool.{false≢true}
 use Rattle.std.proofs.lemmas.Option.{none-some, same_Some}
@@ -38,7 +38,7 @@ wide_read (statements.Position n) e = absurd e
 wide_read (statements.Align n) e = absurd e
 wide_read statements.Nothing e = absurd e
 
--- the four things that a line can come to
+-- the four possible results for a line
 data Comes (variant : Variant) (text : List ℕ) : Result Parsed AsmWhy → Type 0 where
   bad : HasBadByte text → Comes variant text (Err BadByte)
   no_form : IsSyntaxWhere variant text → Comes variant text (Err Syntax)
@@ -66,7 +66,7 @@ comes variant text = by (bad_outside 0 text) refl
     by true e = bad (bad_found text e)
     by false e = at (λ h. false≢true (sym e ∙ bad_read text h)) (line variant text) refl
 
--- ---- what it came to, from the result
+-- ---- from the result to its meaning
 
 found_bad : (variant : Variant) (text : List ℕ) (r : Result Parsed AsmWhy) → Comes variant text r → r ≡ Err BadByte → HasBadByte text
 found_bad variant text _ (bad h) e = h
@@ -95,9 +95,9 @@ found_ok variant text parsed _ (no_form h) e = absurd (cc)
 found_ok variant text parsed _ (wide h) e = absurd (cc)
 found_ok variant text parsed _ (fine other h) e = subst (IsOkWhere variant text) (ok_is other parsed (Ok other) refl e) h
 
--- ---- and the result from what it came to
+-- ---- and from the meaning to the result
 
--- a text says one thing at most
+-- a text has at most one content
 says_one : (variant : Variant) (text : List ℕ) (one other : Parsed) → IsLineOfLanguage variant text one → IsLineOfLanguage variant text other → one ≡ other
 says_one variant text one other p q = same_Some _ _ (sym ((reads_the_language variant text one).1 p) ∙ (reads_the_language variant text other).1 q)
 

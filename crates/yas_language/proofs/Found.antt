@@ -55,7 +55,7 @@ value_is Eight n = value_with Eight _ _ refl refl n.negative n.magnitude
 
 -- ---- operands
 
--- the tokens in front of some tokens
+-- the tokens before the given tokens
 abbrev Front : List ℕ → (List Token → Type 0) → Type 0
 Front text P = (front : List Token) × HasTokens text front × P front
 
@@ -115,7 +115,7 @@ memory_found text m rest e ts h =
 
 -- ---- the table of mnemonics
 
--- what a mnemonic of a shape takes
+-- the statements that a mnemonic of a shape may begin
 abbrev Takes : Variant → List ℕ → Shape → ℕ → ℕ → Type 0
 Takes v name shapes.Alone icode ifun = IsInstruction v name [] (instruction icode ifun 15 15 (Word 0))
 Takes v name shapes.Registers icode ifun = (a b : ℕ) → IsInstruction v name (register a ∷ comma ∷ register b ∷ []) (instruction icode ifun a b (Word 0))
@@ -238,7 +238,7 @@ mnemonic_takes v name op e = row_takes v (mnemonics v) name op (all_take v) e
 
 -- ---- statements
 
--- what is read last
+-- the last thing on a line
 abbrev Last : List ℕ → Statement × List ℕ → (List Token → Statement → Type 0) → Type 0
 Last text x P = IsEnd x.1 → Front text (λ front. P front x.0)
 

@@ -1,4 +1,4 @@
--- A line is read as something exactly where it is a line of the language that says so.
+-- The assembler reads a line with a content exactly if the language has it with this content.
 use Rattle.std.proofs.Common.{◌≡◌, ap, subst, ◌∙◌, ℕ, Bool, true, false, cond, List, [], ◌∷◌, Option, Some, None, refl}
 use Rattle.std.proofs.lemmas.Option.{none-some, same_Some}
 use Rattle.y86_base.specs.declared.parts.Variant.{Variant}

@@ -1,4 +1,4 @@
--- What is in the language the assembler reads.
+-- The assembler reads what is in the language.
 use Rattle.std.proofs.Common.{◌≡◌, ap, sym, subst, ◌∙◌, ℕ, ◌<◌, Bool, true, false, cond, List, [], ◌∷◌, Option, Some, None, refl, arith}
 use Rattle.std.specs.Prelude.{◌&&◌, ◌||◌, ◌==◌, codes, unwrap_or}
 use Rattle.std.proofs.lemmas.Bool.{false≢true}
@@ -77,9 +77,9 @@ next_not_end text token rest n = by (ends text) refl
         absurd (false≢true (sym (behind_end text (end_found text e) (starts token) two.0 two.1) ∙ next_start text token rest n))
     by false e = refl
 
--- ---- what does not stand in front of tokens
+-- ---- what is not in front of tokens
 
--- a test that passes no first byte of words and numbers, and not `$`
+-- a test that fails for `$` and for each first byte of a word or number
 record IsOther (test : ℕ → Bool) : Type 0 where
   word : (byte : ℕ) → is_name_start byte ≡ true → test byte ≡ false
   number : (byte : ℕ) → (is_decimal byte || byte == 45) ≡ true → test byte ≡ false
@@ -143,7 +143,7 @@ register_no_colon byte e = grind (arith, nat_tests)
 
 -- ---- operands
 
--- a reading gives this, and these tokens are left
+-- a reading gives this result, and leaves these tokens
 abbrev Gives : {A : Type 0} → Option (A × List ℕ) → A → List Token → Type 0
 Gives o x ts = (rest : List ℕ) × (o ≡ Some (x, rest)) × HasTokens rest ts
 
@@ -203,7 +203,7 @@ both P b f Full = f
 abbrev Means : List ℕ → Operation → Variant → Type 0
 Means name o v = tables.mnemonic v name ≡ Some o
 
--- what behind a mnemonic is read as a statement
+-- the text after a mnemonic is read as a statement
 abbrev Reads : Variant → List ℕ → List ℕ → Statement → Type 0
 Reads v name text s = (o : Operation) × Means name o v × Gives (grammar.operands_of o text) s []
 
@@ -347,7 +347,7 @@ memory_first : (ts : List Token) (d : Operand) (b : ℕ) (rest : List Token) →
 memory_first _ _ _ _ (no_displacement b rest) text h = excluded (λ x. x == 58) left_paren (sign_byte 40 (λ x. x == 58) refl) text h.0 h.1
 memory_first _ _ _ _ (with_displacement ts d b rest i) text h = operand_first (λ x. x == 58) not_colon Eight ts d _ i text h
 
--- no `:` stands behind a mnemonic
+-- no `:` follows a mnemonic
 colon_behind : (v : Variant) (name : List ℕ) (ts : List Token) (s : Statement) → IsInstruction v name ts s → (text : List ℕ) → HasTokens text ts → begins (λ x. x == 58) (behind is_blank text) ≡ false
 colon_behind v _ _ _ rows.halt text h = behind_end text h (λ x. x == 58) refl refl
 colon_behind v _ _ _ rows.nop text h = behind_end text h (λ x. x == 58) refl refl

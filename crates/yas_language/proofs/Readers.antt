@@ -1,4 +1,4 @@
--- Each reader of the assembler reads a token of its kind, and nothing where another stands.
+-- Each reader of the assembler reads a token of its kind, and nothing if another kind of token is there.
 use Rattle.std.proofs.Common.{◌≡◌, ◌⊎◌, inl, inr, ap, sym, subst, ◌∙◌, ℕ, ◌<◌, Bool, true, false, cond, List, [], ◌∷◌, ◌++◌, length, drop, take_while, Option, Some, None, refl, arith}
 use Rattle.std.specs.Prelude.{nat_eq, not, ◌&&◌, ◌||◌, ◌==◌, codes}
 use Rattle.std.specs.List.{list_all, starts_with}
@@ -26,7 +26,7 @@ use Rattle.yas_language.specs.Tokens.{Token, word, number, register, directive, 
 
 -- ---- the first byte of a token
 
--- what a token's first byte passes
+-- the test that a token's first byte passes
 abbrev pub starts : Token → ℕ → Bool
 starts (word name) byte = is_name_start byte
 starts (number n) byte = is_decimal byte || byte == 45
@@ -95,7 +95,7 @@ token_not_blank : (token : Token) (text : List ℕ) → begins (starts token) te
 token_not_blank token [] e = refl
 token_not_blank token (byte ∷ text) e = start_not_blank token byte e
 
--- the next token stands behind the blanks
+-- the next token begins after the blanks
 pub next_token : (text : List ℕ) (token : Token) (rest : List ℕ) → IsNext text token rest → IsToken (behind is_blank text) token rest
 next_token text token rest n =
     subst (λ t. IsToken t token rest)
@@ -274,7 +274,7 @@ directive_found text d rest e =
     let found = keyword_found directives (behind is_blank text) rest d e in
     token_next text (directive d) rest (found.whole ∙ ap (λ t. t ++ rest) (row_directive found.name d found.has))
 
--- where a text begins with no `.`, it begins with no directive
+-- if a text doesn't begin with a `.`, it doesn't begin with a directive
 pub no_directive : (text : List ℕ) → begins (λ b. b == 46) (behind is_blank text) ≡ false → tables.directive text ≡ None
 unfolding tables.directive
 no_directive text e = by (keyword_at directives (behind is_blank text)) refl
@@ -343,9 +343,10 @@ number_found text n rest e = by (is_hex_number (behind is_blank text)) refl e
     by false h e =
         token_next text (number n) rest (inr (decimal_found (behind is_blank text) n rest e, λ after whole. sym (ap is_hex_number whole) ∙ h))
 
--- ---- what stands in front is of one kind
+-- ---- the next token is of one kind
 
--- where a token stands next, what its first byte does not pass does not stand there
+-- if a token comes next, and no first byte of it passes the test, the text after the blanks doesn't begin with a byte
+-- that passes
 pub excluded : (test : ℕ → Bool) (token : Token) → ((byte : ℕ) → starts token byte ≡ true → test byte ≡ false) → (text rest : List ℕ) → IsNext text token rest
     → begins test (behind is_blank text) ≡ false
 excluded test token other text rest n = by (behind is_blank text) (next_start text token rest n)

@@ -1,4 +1,5 @@
--- Bytes that are not allowed outside comments, and numbers that are too wide: the faults that a line has by itself.
+-- Bytes that are not allowed outside comments, and numbers that are too wide: the faults of a line that need no other
+-- lines.
 use Rattle.std.specs.Prelude.{◌≡◌, ◌⊎◌, ℕ, ◌≤◌, List, ◌∷◌}
 use Rattle.yas_asm.specs.declared.statement.Operand.TheVariants.{Wide}
 use Rattle.yas_asm.specs.declared.statement.Statement.{Statement}
@@ -9,7 +10,7 @@ use Rattle.yas_language.specs.Tokens.{IsComment}
 abbrev pub IsGoodByte : ℕ → Type 0
 IsGoodByte byte = (byte ≡ 9) ⊎ ((byte ≡ 13) ⊎ ((32 ≤ byte) × (byte ≤ 126)))
 
--- from the left, where a comment is passed as a whole and any other byte by itself, there comes a byte that is not allowed
+-- from the left, passing a comment as a whole and any other byte by itself, there is a byte that is not allowed
 pub data HasBadByte : List ℕ → Type 0 where
   here : (byte : ℕ) (bytes : List ℕ) → (IsGoodByte byte → ⊥) → HasBadByte (byte ∷ bytes)
   behind_byte : (byte : ℕ) (bytes : List ℕ) → ((rest : List ℕ) → IsComment (byte ∷ bytes) rest → ⊥) → HasBadByte bytes → HasBadByte (byte ∷ bytes)

@@ -1,4 +1,4 @@
--- The reader's definition of a line reads the language.
+-- The statements of the theorems: the definition by which the assembler reads a line agrees with the language.
 use Rattle.std.specs.Prelude.{◌≡◌, ◌↔◌, ℕ, List, Some, Ok, Err}
 use Rattle.y86_base.specs.declared.parts.Variant.{Variant}
 use Rattle.yas_asm.specs.declared.fault.AsmWhy.TheVariants.{BadByte, NumberTooWide, Syntax}
@@ -8,17 +8,17 @@ use Rattle.yas_language.specs.BadBytes.{HasBadByte, IsTooWide}
 use Rattle.yas_language.specs.Tokens.{Token, HasTokens}
 use Rattle.yas_language.specs.Statements.{IsLine}
 
--- a text is a line of the language that says this
+-- a text is a line of the language with this content
 pub record IsLineOfLanguage (variant : Variant) (text : List ℕ) (parsed : Parsed) : Type 0 where
   pub tokens : List Token
   pub has : HasTokens text tokens
   pub line_is : IsLine variant tokens parsed
 
--- a text is read as something exactly where it is a line of the language that says this
+-- a text is read with a content exactly if it is a line of the language with this content
 abbrev pub ReadsTheLanguage : Type 0
 ReadsTheLanguage = (variant : Variant) (text : List ℕ) (parsed : Parsed) → (line variant text ≡ Some parsed) ↔ IsLineOfLanguage variant text parsed
 
--- a line without a fault of its own, and each fault, come exactly where the language says so
+-- a line is accepted, and each fault of its own is reported, exactly if the language says so
 pub record IsOkWhere (variant : Variant) (text : List ℕ) (parsed : Parsed) : Type 0 where
   pub good : HasBadByte text → ⊥
   pub says : IsLineOfLanguage variant text parsed

@@ -15,7 +15,7 @@ use Rattle.yas_asm.specs.declared.statement.Statement.TheVariants as statements
 use Rattle.yas_asm.specs.declared.statement.Parsed.{Parsed}
 use Rattle.yas_language.specs.Tokens.{Token, word, number, register, directive, dollar, comma, left_paren, right_paren, colon}
 
--- the largest magnitude that a number takes in a width, with `-` in front of it and without
+-- the largest magnitude of a number in a width, with a `-` before it and without
 abbrev pub most_below : Width → ℕ
 most_below One = 128
 most_below Two = 32768
@@ -37,7 +37,7 @@ value_of_parts width true (Some n) = if nat_le n (most_below width) then Word ((
 abbrev pub value : Width → Number → Operand
 value width n = value_of_parts width n.negative n.magnitude
 
--- V, first without `$`: a number or a label. The last list are the tokens behind it
+-- V, first without `$`: a number or a label. The last list is the tokens after it
 pub data IsValue (width : Width) : List Token → Operand → List Token → Type 0 where
   a_number : (n : Number) (rest : List Token) → IsValue width (number n ∷ rest) (value width n) rest
   a_label : (name : List ℕ) (rest : List Token) → IsValue width (word name ∷ rest) (Label name) rest
@@ -61,14 +61,14 @@ pub data IsMove : List ℕ → ℕ → Type 0 where
   cmovge : IsMove (codes "cmovge") 5
   cmovg : IsMove (codes "cmovg") 6
 
--- those of the arithmetic and logical operations
+-- the functions of the arithmetic and logical operations
 pub data IsOperation : List ℕ → ℕ → Type 0 where
   addq : IsOperation (codes "addq") 0
   subq : IsOperation (codes "subq") 1
   andq : IsOperation (codes "andq") 2
   xorq : IsOperation (codes "xorq") 3
 
--- those of the jumps
+-- the functions of the jumps
 pub data IsJump : List ℕ → ℕ → Type 0 where
   jmp : IsJump (codes "jmp") 0
   jle : IsJump (codes "jle") 1
@@ -83,11 +83,11 @@ pub data IsNatural : Number → Option ℕ → Type 0 where
   positive : (magnitude : Option ℕ) → IsNatural (record { negative = false; magnitude = magnitude }) magnitude
   minus_zero : IsNatural (record { negative = true; magnitude = Some 0 }) (Some 0)
 
--- an instruction; 15 stands for a register that it does not have, and the number 0 for a constant that it does not have
+-- an instruction; 15 means a register that it does not have, and the number 0 a constant that it does not have
 abbrev pub instruction : ℕ → ℕ → ℕ → ℕ → Operand → Statement
 instruction icode ifun a b constant = statements.Instruction icode ifun a b constant
 
--- what stands behind a mnemonic
+-- the tokens after a mnemonic
 pub data IsInstruction (variant : Variant) : List ℕ → List Token → Statement → Type 0 where
   halt : IsInstruction variant (codes "halt") [] (instruction 0 0 15 15 (Word 0))
   nop : IsInstruction variant (codes "nop") [] (instruction 1 0 15 15 (Word 0))
@@ -103,7 +103,7 @@ pub data IsInstruction (variant : Variant) : List ℕ → List Token → Stateme
   popq : (a : ℕ) → IsInstruction variant (codes "popq") (register a ∷ []) (instruction 11 0 a 15 (Word 0))
   iaddq : variant ≡ Full → (ts : List Token) (v : Operand) (b : ℕ) → IsOperand Eight ts v (comma ∷ register b ∷ []) → IsInstruction variant (codes "iaddq") ts (instruction 12 0 15 b v)
 
--- what stands behind a directive
+-- the tokens after a directive
 pub data IsDirective : Directive → List Token → Statement → Type 0 where
   pos : (n : Number) (k : ℕ) → IsNatural n (Some k) → IsDirective directives.Position (number n ∷ []) (statements.Position k)
   wide_pos : (n : Number) → IsNatural n None → IsDirective directives.Position (number n ∷ []) statements.Wide

@@ -1,5 +1,5 @@
--- The tokens of assembly text, and the text of a line as tokens: blanks may stand between any two, each token is as long as it goes, and
--- at most one comment stands behind the last.
+-- The tokens of assembly text, and the text of a line as tokens. Blanks may be between any two tokens, each token is as
+-- long as possible, and at most one comment follows the last.
 use Rattle.std.specs.Prelude.{◌≡◌, ◌⊎◌, ℕ, ◌<◌, true, false, List, [], ◌∷◌, ◌++◌, length, codes}
 use Rattle.std.specs.List.{list_all}
 use Rattle.std.specs.Str.Parse.{digits_value}
@@ -50,7 +50,7 @@ abbrev pub HasRow : {A : Type 0} → List (List ℕ × A) → List ℕ → A →
 HasRow [] text meaning = ⊥
 HasRow (row ∷ rows) text meaning = (row ≡ (text, meaning)) ⊎ HasRow rows text meaning
 
--- `0x` and hex digits of either case, as many as there are, one at least
+-- `0x` and the longest run of hex digits of either case, with at least one
 pub record IsHex (text : List ℕ) (value : Number) (rest : List ℕ) : Type 0 where
   pub digits : List ℕ
   pub whole : text ≡ 48 ∷ 120 ∷ (digits ++ rest)
@@ -60,11 +60,11 @@ pub record IsHex (text : List ℕ) (value : Number) (rest : List ℕ) : Type 0 w
   pub positive : value.negative ≡ false
   pub magnitude : value.magnitude ≡ below_word (digits_value 16 digits)
 
--- no `0x` with a hex digit behind it stands in front
+-- the text doesn't begin with `0x` and a hex digit
 abbrev pub NoHex : List ℕ → Type 0
 NoHex text = (behind : List ℕ) → text ≡ 48 ∷ 120 ∷ behind → begins is_hex behind ≡ false
 
--- a text begins with a token, and the rest stands behind it
+-- a text begins with a token, and the rest follows it
 abbrev pub IsToken : List ℕ → Token → List ℕ → Type 0
 IsToken text (word name) rest = (begins is_name_start text ≡ true) × IsRun is_name_byte text name rest
 IsToken text (number value) rest = IsHex text value rest ⊎ (IsDecimal text value rest × NoHex text)
@@ -72,7 +72,7 @@ IsToken text (register r) rest = (name : List ℕ) × HasRow register_names name
 IsToken text (directive d) rest = text ≡ directive_text d ++ rest
 IsToken text (sign byte) rest = (is_sign byte ≡ true) × (text ≡ byte ∷ rest)
 
--- the next token behind blanks
+-- the next token after blanks
 pub record IsNext (text : List ℕ) (token : Token) (rest : List ℕ) : Type 0 where
   pub blanks : List ℕ
   pub front : List ℕ
@@ -80,18 +80,18 @@ pub record IsNext (text : List ℕ) (token : Token) (rest : List ℕ) : Type 0 w
   pub blank : list_all is_blank blanks ≡ true
   pub token_is : IsToken front token rest
 
--- no `*/` stands in a text
+-- there is no `*/` in a text
 abbrev pub NoClose : List ℕ → Type 0
 NoClose text = (before after : List ℕ) → text ≡ before ++ 42 ∷ 47 ∷ after → ⊥
 
--- a text begins with a comment, and the rest stands behind it: `#` and `//` begin one to the end of the line, and `/*` begins one to the
--- first `*/`
+-- a text begins with a comment, and the rest follows it: `#` and `//` begin one to the end of the line, and `/*` one to
+-- the first `*/`
 pub data IsComment : List ℕ → List ℕ → Type 0 where
   hash : (text : List ℕ) → IsComment (35 ∷ text) []
   slashes : (text : List ℕ) → IsComment (47 ∷ 47 ∷ text) []
   closed : (inside rest : List ℕ) → NoClose (inside ++ 42 ∷ []) → IsComment (47 ∷ 42 ∷ (inside ++ 42 ∷ 47 ∷ rest)) rest
 
--- the end of a line behind its last token: blanks, and at most one comment
+-- the end of a line after its last token: blanks, and at most one comment
 pub data IsEnd (text : List ℕ) : Type 0 where
   plain : list_all is_blank text ≡ true → IsEnd text
   commented : (blanks comment rest : List ℕ) → text ≡ blanks ++ comment → list_all is_blank blanks ≡ true → IsComment comment rest → list_all is_blank rest ≡ true → IsEnd text

@@ -1,5 +1,5 @@
 //! The assembly language of Y86-64, stated as a language: its tokens, a table of its statements, and the theorem that
-//! the assembler reads exactly the lines of the language, and reads each as the statement that it is.
+//! the assembler reads exactly the lines of the language, each as the statement that it is.
 #![tactic(auto)]
 
 mod laws;

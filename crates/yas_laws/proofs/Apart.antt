@@ -22,7 +22,7 @@ use Rattle.yas_laws.proofs.ListingImage.{image_same}
 use Rattle.yo_object.specs.ReadBack.{IsInside, IsAddressed, EmitsAtAddresses, HasNoByteAt, FitsItsSize, HasItsBytes}
 use Rattle.yas_laws.proofs.Images.{zeros_inside, byte_kept}
 
--- what holds of each line with any lines in front of it and behind it holds of all
+-- a property of each line with any lines before and after it holds for all lines
 from_parts : (P : Line → Type 0) (lines : List Line) → ((before after : List Line) (line : Line) → lines ≡ before ++ line ∷ after → P line) → All P lines
 from_parts P lines each k d lt =
     each (take k lines) (drop (suc k) lines) (get_or lines k d) (sym (take-append-drop k lines) ∙ ap (λ rest. take k lines ++ rest) (drop-cons lines k d lt))
@@ -40,7 +40,7 @@ misses_at (Some first) n a none =
       | inr le ↦ (elim (cases_lt a (first + n)) [ inl lt ↦ absurd (none first refl le lt) | inr past ↦ inr past ])
     ]
 
--- behind a line that has a byte at an address no line has one
+-- after a line that has a byte at an address, no line has one there
 later_miss : (variant : Variant) (source : List ℕ) (size : ℕ) (before after : List Line) (line : Line) (first k : ℕ) →
     assembled variant source size ≡ Ok (before ++ line ∷ after) → line.addr ≡ Some first → k < length line.bytes.items → All (HasNoByteAt (first + k)) after
 later_miss variant source size before after line first k e at lt = from_parts (HasNoByteAt (first + k)) after (λ between rest other split.
@@ -48,7 +48,7 @@ later_miss variant source size before after line first k e at lt = from_parts (H
     bytes_have_one_line variant source size (before ++ line ∷ after) e before between rest line other (first + k)
     (ap (λ behind. before ++ line ∷ behind) split) (emits_its line first (first + k) at (omega arith) (omega arith)) (emits_its other start (first + k) there le below)))
 
--- a line that emits bytes keeps within the size
+-- a line that emits bytes stays within the size
 
 width_fits : (variant : Variant) (size address : ℕ) (statement : Statement) → is_some (place variant size address statement) ≡ true → 0 < width_of variant statement →
     address + width_of variant statement ≤ size
@@ -66,7 +66,7 @@ no_why why e = cc
 no_address : (first : ℕ) → None ≡ Some first → ⊥
 no_address first e = cc
 
--- without an address no line has bytes
+-- a line without an address has no bytes
 unaddressed : (variant : Variant) (size : ℕ) (table : List (List ℕ × ℕ)) (from to address : ℕ) (read : Result Parsed AsmWhy) →
     IsAddressed (listed variant size table from to address read)
 unfolding listed bytes_at
@@ -100,7 +100,7 @@ emitted_inside variant size table known used from to address (Ok parsed) sound e
 
 -- the lines of an accepted source
 
--- what holds of each line without a fault holds of all
+-- a property of each line without a fault holds for all
 from_faultless : (P : Line → Type 0) (variant : Variant) (size : ℕ) (table : List (List ℕ × ℕ)) (seen rest : List Placed) (from : ℕ) →
     ((known : List (List ℕ × ℕ)) (used : List ℕ) (from to address : ℕ) (read : Result Parsed AsmWhy) →
     IsSoundRead variant read → line_fault variant size table known used address read ≡ None → P (listed variant size table from to address read)) →

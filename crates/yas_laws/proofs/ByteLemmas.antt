@@ -30,7 +30,7 @@ use Rattle.yas_asm.proofs.Parts.{head_is, tail_is, no_cons, at_most}
 use Rattle.yas_asm.proofs.PassLemmas.{faultless}
 use Rattle.yas_laws.proofs.LawLemmas.{fault_at, accepted}
 
--- where a line emits
+-- the addresses at which a line emits
 pub emits_within : (first count a : ℕ) → emits_at (Some first) count a ≡ true → (first ≤ a) × (a < first + count)
 emits_within first count a e =
     let two = and_parts (nat_le first a) (nat_lt a (first + count)) e in
@@ -51,7 +51,7 @@ pub row_length : (variant : Variant) (icode ifun a b value : ℕ) → icode < le
 row_length variant icode ifun a b value known =
     length-encoded (record { icode = icode; ifun = ifun; r_a = a; r_b = b; val_c = value }) ∙ ap (λ (r : Row). r.length) (sym (row-widest variant icode known))
 
--- a line emits at the addresses from its own on, as many as its statement's width
+-- a line emits at the addresses from its own on, as many as its statement is wide
 pub emits-listed : (variant : Variant) (size : ℕ) (table : List (List ℕ × ℕ)) (from to address a : ℕ) (parsed : Parsed)
     → IsSound variant parsed.statement → emits (listed variant size table from to address (Ok parsed)) a ≡ true → (address ≤ a) × (a < address + width_of variant parsed.statement)
 unfolding listed bytes_at width_of
@@ -76,7 +76,7 @@ range_has first (suc count) a h k = by (nat_eq a first) refl (λ (l : first + 1 
     by true t later = refl
     by false t later = later (grind (arith, nat_tests))
 
--- no used address is one of some bytes that overlap none
+-- if a range overlaps no used address, no used address is in it
 apart : (used : List ℕ) (address n a : ℕ) → overlaps used address n ≡ false → list_any (nat_eq a) used ≡ true → address ≤ a → a < address + n → ⊥
 unfolding overlaps
 apart used address zero a o u h k = omega arith
@@ -113,7 +113,8 @@ filled-has variant size a [] between line e = any_left (nat_eq a) _ _ e
 filled-has variant size a (other ∷ before) between line e =
     any_right (nat_eq a) (addresses variant size other.address other.read) _ (filled-has variant size a before between line e)
 
--- a line of a listing and those behind it come from a line of the source and those behind it, with as many lines in front
+-- a line of a listing and those after it come from a line of the source and those after it, with the same number of
+-- lines before
 pub record IsFrom (variant : Variant) (size : ℕ) (table : List (List ℕ × ℕ)) (all : List Placed) (passed : ℕ) (line : Line) (rest : List Line) : Type 0 where
   pub before : List Placed
   pub placed : Placed
@@ -163,7 +164,7 @@ emits-err : (variant : Variant) (size : ℕ) (table : List (List ℕ × ℕ)) (f
 unfolding listed
 emits-err variant size table from to address a why e = false≢true e
 
--- what a line without a fault emits is at its own addresses
+-- a line without a fault emits only at its own addresses
 emits-addresses : (variant : Variant) (size : ℕ) (table known : List (List ℕ × ℕ)) (used : List ℕ) (from to address a : ℕ) (read : Result Parsed AsmWhy)
     → IsSoundRead variant read → line_fault variant size table known used address read ≡ None → emits (listed variant size table from to address read) a ≡ true
     → list_any (nat_eq a) (addresses variant size address read) ≡ true
@@ -174,7 +175,7 @@ emits-addresses variant size table known used from to address a (Ok parsed) soun
     let two = emits-listed variant size table from to address a parsed sound e in
     rw tests.emits.inside (range_has address (width_of variant parsed.statement) a two.0 two.1)
 
--- and is at no address that is used
+-- and at no address that is used
 emits-unused : (variant : Variant) (size : ℕ) (table known : List (List ℕ × ℕ)) (used : List ℕ) (from to address a : ℕ) (read : Result Parsed AsmWhy)
     → IsSoundRead variant read → line_fault variant size table known used address read ≡ None → emits (listed variant size table from to address read) a ≡ true
     → list_any (nat_eq a) used ≡ true → ⊥

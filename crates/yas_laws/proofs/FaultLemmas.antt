@@ -54,7 +54,7 @@ lines_follow = record {
   next = λ variant source size before after line other e. placed-next variant size 0 (lines source) before after line other e;
 }
 
--- the line at which the first fault of some lines stands, where `before` are the lines before these
+-- the line with the first fault of these lines; `before` is the lines before these
 pub record IsFoundAt (variant : Variant) (size : ℕ) (table : List (List ℕ × ℕ)) (before rest : List Placed) (fault : AsmFault) : Type 0 where
   pub front : List Placed
   pub line : Placed

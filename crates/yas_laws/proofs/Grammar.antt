@@ -1,4 +1,4 @@
--- The definition of an object line reads the grammar's form.
+-- The definition of an object line reads exactly the form that the grammar gives.
 use Rattle.std.proofs.Common.{◌≡◌, ℕ, ◌<◌, Bool, true, false, cond, ◌&&◌, nat_lt, List, [], ◌∷◌, ◌++◌, length, refl, sym, ap, ◌∙◌, Option, Some, None, take_while, arith}
 use Rattle.std.specs.List.{list_all}
 use Rattle.std.proofs.lemmas.Bool.{eqb-true, lt-ltb, ltb-true, and_parts}
@@ -10,7 +10,7 @@ use Rattle.y86_base.proofs.Runs.{after_byte_some, behind-run, list_all-append, r
 use Rattle.yo_object.specs.ObjectText.{after_prefix, is_line_end, Digits, digits_behind_colon, digits_of}
 use Rattle.yo_object.specs.Grammar.{IsObjectLine, BeginsObjectLine, digits_in_line, ReadsTheForm, SkipsTheRest}
 
--- a text doesn't begin with a byte that passes
+-- a text doesn't begin with a byte that passes the test
 abbrev Stops : (ℕ → Bool) → List ℕ → Type 0
 Stops passes text = begins passes text ≡ false
 
@@ -25,7 +25,7 @@ hex_not_blank byte h = grind (arith, nat_tests)
 blank_not_hex : (byte : ℕ) → is_blank byte ≡ true → is_hex byte ≡ false
 blank_not_hex byte h = grind (arith, nat_tests)
 
--- a line's end stops blanks and hex digits
+-- neither blanks nor hex digits go on at the end of a line
 end_stops_blanks : (comment : List ℕ) → is_line_end comment ≡ true → Stops is_blank comment
 end_stops_blanks [] h = refl
 end_stops_blanks (first ∷ comment) h = let e : first ≡ 124 = eqb-true first 124 h in rw e refl
@@ -34,12 +34,12 @@ end_stops_hex : (comment : List ℕ) → is_line_end comment ≡ true → Stops 
 end_stops_hex [] h = refl
 end_stops_hex (first ∷ comment) h = let e : first ≡ 124 = eqb-true first 124 h in rw e refl
 
--- blanks, and then what hex digits stop at, stop hex digits
+-- hex digits don't go on at blanks followed by something at which they don't go on
 blanks_stop_hex : (trail comment : List ℕ) → list_all is_blank trail ≡ true → Stops is_hex comment → Stops is_hex (trail ++ comment)
 blanks_stop_hex [] comment h stops = stops
 blanks_stop_hex (first ∷ trail) comment h stops = blank_not_hex first (and_parts (is_blank first) (list_all is_blank trail) h).0
 
--- what is read behind the colon
+-- what is read after the colon
 pub record IsData (text bytes : List ℕ) : Type 0 where
   pub digits : take_while is_hex (behind is_blank text) ≡ bytes
   pub ends : is_line_end (behind is_blank (behind is_hex (behind is_blank text))) ≡ true
@@ -78,7 +78,7 @@ form_read line address bytes form =
     rw (start, colon, digits) (data_found address data_text bytes form.address_some
     (data_read form.gap bytes form.trail form.comment form.gap_blank form.bytes_hex form.trail_blank form.comment_ends))
 
--- what the definition found behind the colon
+-- what the definition found after the colon
 record IsFound (read text address bytes : List ℕ) : Type 0 where
   some : 0 < length read
   ends : is_line_end (behind is_blank (behind is_hex (behind is_blank text))) ≡ true

@@ -1,4 +1,4 @@
--- The hex digits that are printed of a number and of bytes are read back as these.
+-- The hex digits that are printed for a number and for bytes are read back as these.
 use Rattle.std.proofs.Common.{◌≡◌, ℕ, zero, suc, ◌+◌, ◌-◌, ◌*◌, ◌/◌, ◌%◌, ◌^◌, ◌<◌, ◌≤◌, true, false, List, [], ◌∷◌, ◌++◌, length, ◌&&◌, replicate, refl, ap, ◌∙◌, inl, inr, arith, length-append}
 use Rattle.std.specs.Char.{digit_value}
 use Rattle.std.specs.List.{list_all}
@@ -46,7 +46,7 @@ zeros_hex : (count : ℕ) (others : List ℕ) → list_all is_hex others ≡ tru
 zeros_hex zero others h = h
 zeros_hex (suc count) others h = zeros_hex count others h
 
--- the numeral of a number is hex digits that write this number
+-- the numeral of a number consists of hex digits that write this number
 pub record IsHexOf (least most n : ℕ) (made : List ℕ) : Type 0 where
   pub hex : list_all is_hex made ≡ true
   pub number : digits_value 16 made ≡ n
@@ -67,7 +67,7 @@ numeral_is_hex least most n within low small fits =
 
 -- bytes
 
--- pairs of hex digits that write some bytes
+-- pairs of hex digits that write these bytes
 pub record ArePairsOf (bytes made : List ℕ) : Type 0 where
   pub hex : list_all is_hex made ≡ true
   pub bytes_are : bytes_of_pairs made ≡ bytes

@@ -23,7 +23,7 @@ use Rattle.yas_asm.proofs.PassLemmas.{faultless}
 use Rattle.yas_laws.proofs.LawLemmas.{no_fault, accepted}
 use Rattle.yas_laws.proofs.ByteLemmas.{AllSound, all_sound, bytes_have_one_line, emits_within, row_length, length-data}
 
--- what a place of a memory holds after some bytes were put into it
+-- the byte at an address after bytes were stored in a memory
 put-inside : (memory bytes : List ℕ) (first a : ℕ) → first + length bytes ≤ length memory → first ≤ a → a < first + length bytes
     → get_or (take first memory ++ (bytes ++ drop (first + length bytes) memory)) a 0 ≡ get_or bytes (a - first) 0
 put-inside memory bytes first a f h k = grind (arith, elements)
@@ -40,7 +40,7 @@ length-put : (memory bytes : List ℕ) (first : ℕ) → first + length bytes �
     → length (take first memory ++ (bytes ++ drop (first + length bytes) memory)) ≡ length memory
 length-put memory bytes first f = grind (arith, elements)
 
--- the bytes of a line lie within a size
+-- the bytes of a line are within a size
 abbrev pub FitsAt : ℕ → Option ℕ → ℕ → Type 0
 FitsAt size None count = Unit {0}
 FitsAt size (Some first) count = first + count ≤ size
@@ -122,7 +122,7 @@ fits-line variant size table known used from to address (Err why) sound e = tt
 fits-line variant size table known used from to address (Ok parsed) sound e =
     fits-listed variant size table from to address parsed sound (faultless variant size table known used address parsed e).emits.inside
 
--- in an accepted source all bytes lie within the size
+-- in an accepted source all bytes are within the size
 all_fit : (variant : Variant) (size : ℕ) (table : List (List ℕ × ℕ)) (before rest : List Placed) (from : ℕ) → AllSound variant rest → first_fault variant size table before rest ≡ None → AllFit size (listing variant size table from rest)
 unfolding first_fault listing AllFit
 all_fit variant size table before [] from sound e = tt

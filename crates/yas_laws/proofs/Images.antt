@@ -11,7 +11,7 @@ use Rattle.yas_laws.proofs.ListingImage.{with_line, image_same}
 use Rattle.yo_object.proofs.Bytes.{grouped, put_nothing}
 use Rattle.yas_laws.proofs.PrintedLines.{size_kept}
 
--- a memory with bytes put at an address: at their places, in front of them and behind them
+-- memory with bytes stored at an address: at their places, before them and after them
 
 pub put_inside : (memory bytes : List ℕ) (first k : ℕ) → first + length bytes ≤ length memory → k < length bytes →
     get_or (with_bytes memory first bytes) (first + k) 0 ≡ get_or bytes k 0
@@ -75,7 +75,7 @@ is_zero_elsewhere listing size a inside misses =
     ap (λ memory. get_or memory a 0) (sym (image_same listing size))
     ∙ all_missed (replicate size 0) listing a (zeros_inside size listing inside) misses ∙ zeros_are_zero size a
 
--- the bytes of a line, where the lines behind it miss them
+-- the bytes of a line, if the lines after it miss them
 pub byte_kept : (memory : List ℕ) (before after : List Line) (line : Line) (first k : ℕ) → All (IsInside (length memory)) (before ++ (line ∷ after)) →
     line.addr ≡ Some first → k < length line.bytes.items → All (HasNoByteAt (first + k)) after →
     get_or (fold with_line memory (before ++ (line ∷ after))) (first + k) 0 ≡ get_or line.bytes.items k 0

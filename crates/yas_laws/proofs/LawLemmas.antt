@@ -1,4 +1,4 @@
--- What follows from the definition of an assembled source.
+-- Proofs of the laws of an assembled source, except for its bytes and its image.
 use Rattle.std.proofs.Common.{◌≡◌, ap, sym, subst, ◌∙◌, ℕ, Bool, true, false, cond, List, [], ◌∷◌, ◌++◌, length, fold, Option, None, Some, Result, Ok, Err, refl, inl, inr}
 use Rattle.std.specs.Prelude.{is_some, is_none, nat_le, ◌&&◌, ◌||◌, ◌⊎◌}
 use Rattle.std.specs.Str.{bytes_eq}
@@ -18,7 +18,7 @@ use Rattle.yas_asm.specs.Laws.{LabelsAreAddresses, LabelsAreOfLines, IsLabelled}
 use Rattle.yas_asm.proofs.Parts.{head_is, no_middle, not_here, tail_is}
 use Rattle.yas_asm.proofs.PassLemmas.{faultless}
 
--- a look-up finds what it found when further names are put behind
+-- a look-up finds the same entry if further names are appended
 meaning_of-kept : (table : List (List ℕ × ℕ)) (entry : List ℕ × ℕ) (name : List ℕ) (a : ℕ) → meaning_of table name ≡ Some a → meaning_of (table ++ entry ∷ []) name ≡ Some a
 unfolding meaning_of
 meaning_of-kept [] entry name a e = absurd (none-some a e)
@@ -29,7 +29,7 @@ meaning_of-kept (row ∷ table) entry name a e = by (bytes_eq name row.0) (meani
     by true later e = e
     by false later e = later e
 
--- and a new name behind is found
+-- and finds a new name that is appended
 meaning_of-new : (table : List (List ℕ × ℕ)) (name : List ℕ) (a : ℕ) → meaning_of table name ≡ None → meaning_of (table ++ (name, a) ∷ []) name ≡ Some a
 unfolding meaning_of
 meaning_of-new [] name a e = ap (λ b. cond b (Some a) None) ((bytes_eq-Decides name name).1 refl)
@@ -67,7 +67,7 @@ pub no_fault : (found : Option AsmWhy) (n : ℕ) (later : Option AsmFault) → f
 no_fault None n later e = (refl, e)
 no_fault (Some why) n later e = absurd (none-some (record { line = n; why = why }) (sym e))
 
--- where no line has a fault, a line in their midst has none behind those before it
+-- if no line has a fault, a line among them has none after those before it
 pub fault_at : (variant : Variant) (size : ℕ) (table : List (List ℕ × ℕ)) (first before after : List Placed) (line : Placed)
     → first_fault variant size table first (before ++ line ∷ after) ≡ None
     → line_fault variant size table (labels (first ++ before)) (filled variant size (first ++ before)) line.address line.read ≡ None
@@ -113,7 +113,7 @@ labels_are_addresses variant source size lines e before after line name split l 
     let here = fault_at variant size (labels (source_lines variant size source)) [] before after line none in
     rw split (rw (fold-append (λ table line. with_label table line.address (label_of line.read)) [] before (line ∷ after)) (fold-kept _ after name line.address (label_at variant size _ (labels before) _ line.address line.read name here l)))
 
--- a look-up in a table with one more name behind finds what it found, or that name
+-- a look-up in a table with one more name appended finds what it found, or that name
 from_new : (table : List (List ℕ × ℕ)) (entry : List ℕ × ℕ) (name : List ℕ) (a : ℕ) → meaning_of (table ++ entry ∷ []) name ≡ Some a
     → (meaning_of table name ≡ Some a) ⊎ ((name ≡ entry.0) × (entry.1 ≡ a))
 unfolding meaning_of
@@ -145,7 +145,7 @@ from_label table address (Some other) name a e = by (is_some (meaning_of table o
 abbrev step : List (List ℕ × ℕ) → Placed → List (List ℕ × ℕ)
 step table line = with_label table line.address (label_of line.read)
 
--- a table with as many labels as there may be stays
+-- a table with the largest number of labels doesn't change
 full_label : (table : List (List ℕ × ℕ)) (address : ℕ) (label : Option (List ℕ)) → nat_le label_limit (length table) ≡ true → with_label table address label ≡ table
 unfolding with_name
 full_label table address None f = refl
@@ -160,7 +160,7 @@ full_stays : (table : List (List ℕ × ℕ)) (all : List Placed) → nat_le lab
 full_stays table [] f = refl
 full_stays table (line ∷ all) f = ap (λ t. fold step t all) (full_label table line.address (label_of line.read) f) ∙ full_stays table all f
 
--- a name that its line doesn't define, and that no earlier one does, is defined nowhere
+-- a name that its line doesn't define, and no earlier line defines, is not defined at all
 not_defined : (table : List (List ℕ × ℕ)) (address : ℕ) (all : List Placed) (name : List ℕ) (a : ℕ) → meaning_of (with_label table address (Some name)) name ≡ None
     → meaning_of (fold step (with_label table address (Some name)) all) name ≡ Some a → ⊥
 unfolding with_name

@@ -1,5 +1,5 @@
--- The lines of the listing of an accepted source: their texts are lines of the source, their bytes are bytes, their addresses are
--- at most the size.
+-- The lines of the listing of an accepted source: their texts are lines of the source, their bytes are below 256, and
+-- their addresses are at most the size.
 use Rattle.std.proofs.Common.{◌≡◌, ℕ, zero, suc, ◌+◌, ◌-◌, ◌*◌, ◌<◌, ◌≤◌, Bool, true, false, cond, eqb, not, nat_le, List, [], ◌∷◌, length, take, drop, All, IfSome, Option, Some, None, Result, Ok, Err, refl, ap, sym, subst, ◌∙◌, arith, length-take, length-drop, drop-drop, leb-true}
 use Rattle.std.specs.Prelude.{unwrap_or}
 use Rattle.std.specs.List.{list_all, position_or_len}
@@ -144,7 +144,7 @@ one_listed variant size table source text from to address (Ok parsed) e h plain 
   within = shown_most parsed.label address size (place variant size address parsed.statement) parsed.statement h (place_most variant size address parsed.statement);
 }
 
--- the lines of a text that begins at a place of the source
+-- the listed lines of a text that begins at a place of the source
 lines_listed : (variant : Variant) (size : ℕ) (table : List (List ℕ × ℕ)) (source : List ℕ) (most from address : ℕ) (text : List ℕ) →
     length text ≤ most → drop from source ≡ text → address ≤ size →
     All (IsListed source size) (listing variant size table from (placed variant size address (lines text)))

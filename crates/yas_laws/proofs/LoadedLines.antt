@@ -1,4 +1,4 @@
--- What the definition of object text says of a line: it is skipped, it puts its bytes, or it has a fault.
+-- By the definition of object text, a line is skipped, stores its bytes, or has a fault.
 use Rattle.std.proofs.Common.{◌≡◌, ◌⊎◌, ℕ, ◌+◌, ◌/◌, ◌%◌, ◌<◌, ◌≤◌, Bool, true, false, cond, ◌&&◌, nat_lt, eqb, List, length, Option, Some, None, Result, Ok, Err, refl, ap, sym, subst, ◌∙◌, inl, inr, arith, le-ltb, ltb-true, ltb-false, ne_eqb}
 use Rattle.std.specs.Prelude.{option_and_then}
 use Rattle.std.specs.Option.{option_map_or}
@@ -14,7 +14,7 @@ use Rattle.yo_object.specs.LoadedText.{IsSkipped, PutsBytes, HaveFault, HasFault
 use Rattle.yo_object.proofs.Bytes.{pairs_length}
 use Rattle.yas_laws.proofs.Grammar.{form_read, form_found, begin_read, begin_found}
 
--- the digits of a line of the form
+-- the digits of a well-formed line
 
 not_both : (a b : Bool) → (a ≡ true → b ≡ false) → (a && b) ≡ false
 not_both true b h = h refl
@@ -24,7 +24,7 @@ then_not : (a b : Bool) → a ≡ true → (a && b) ≡ false → b ≡ false
 then_not true b h e = e
 then_not false b h e = absurd (cc)
 
--- what a line of the form leaves, where its digits have no fault
+-- the memory after a well-formed line whose digits have no fault
 record IsPutBy (memory : List ℕ) (digits : Digits) (after : List ℕ) : Type 0 where
   narrow : length digits.address ≤ 16
   even : length digits.bytes % 2 ≡ 0
@@ -60,7 +60,7 @@ say_digits memory digits =
           after_is = refl;
         }
 
--- what a line leaves, where it has no fault
+-- the memory after a line without a fault
 abbrev pub IsPut : ℕ → List ℕ → List ℕ → List ℕ → Type 0
 IsPut size memory line after = (IsSkipped line × (after ≡ memory)) ⊎ ((p : PutsBytes size line) × (after ≡ with_bytes memory p.address p.bytes))
 
@@ -123,7 +123,7 @@ is_put size memory line after long e = subst (λ n. IsPut n memory line after) l
 pub is_faulty : (size : ℕ) (memory line : List ℕ) (why : YoWhy) → length memory ≡ size → put_line memory line ≡ Err why → HasFault size line why
 is_faulty size memory line why long e = subst (λ n. HasFault n line why) long (subst (SayLine memory line) e (say_line memory line))
 
--- and the other way round: a line of the form puts its bytes, and a skipped one leaves the memory
+-- and conversely: a well-formed line stores its bytes, and a skipped one leaves the memory unchanged
 
 put_form : (memory line address bytes : List ℕ) → IsObjectLine line address bytes →
     put_line memory line ≡ put_digits memory (record { address = address; bytes = bytes })

@@ -39,7 +39,7 @@ blanks_plain : (count : ℕ) → list_all is_plain (replicate count 32) ≡ true
 blanks_plain zero = refl
 blanks_plain (suc count) = blanks_plain count
 
--- a text up to a line feed is the first line, and the lines behind it are the others
+-- the text up to a line feed is the first line, and the lines after it are the others
 next_line : (line rest : List ℕ) → list_all is_plain line ≡ true → lines (line ++ (10 ∷ rest)) ≡ line ∷ lines rest
 next_line [] rest h = refl
 next_line (byte ∷ line) rest h =
@@ -57,7 +57,7 @@ regroup : (digits pairs trail text : List ℕ) →
     ≡ 48 ∷ 120 ∷ (digits ++ (58 ∷ 32 ∷ (pairs ++ ((trail ++ (32 ∷ [])) ++ (124 ∷ 32 ∷ text)))))
 regroup digits pairs trail text = simp append_assoc
 
--- digits of an address and of bytes, between the fixed signs, are a line of the form
+-- hex digits of an address and of bytes, between the fixed signs, form a well-formed line
 form_of : (digits pairs trail text : List ℕ) → list_all is_hex digits ≡ true → 0 < length digits → list_all is_hex pairs ≡ true → list_all is_blank trail ≡ true →
     IsObjectLine ((codes "0x" ++ digits ++ codes ": " ++ (pairs ++ trail)) ++ (codes " | " ++ text)) digits pairs
 form_of digits pairs trail text digits_hex some pairs_hex trail_blank = record {
@@ -83,7 +83,7 @@ blanks_skipped bytes text rest begins = no (sym (begin_read _ rest begins) ∙ a
     no : Some rest ≡ None → ⊥
     no e = cc
 
--- a printed line puts its bytes at its address
+-- a printed line stores its bytes at its address
 line_puts : (memory bytes text : List ℕ) (addr : Option ℕ) → AreBytes bytes → IfSome addr (λ a. a < 16 ^ 16) →
     IfSome addr (λ a. 0 < length bytes → a + length bytes ≤ length memory) →
     put_line memory (front addr bytes ++ (codes " | " ++ text)) ≡ Ok (put_at addr bytes memory)
@@ -105,7 +105,7 @@ line_puts memory bytes text (Some a) small narrow inside =
       inside = inside;
     }) refl
 
--- what stands in front of a line's text is no line feed
+-- what precedes a line's text has no line feed
 front_plain : (bytes : List ℕ) (addr : Option ℕ) → AreBytes bytes → IfSome addr (λ a. a < 16 ^ 16) → list_all is_plain (front addr bytes) ≡ true
 unfolding front
 front_plain bytes None small narrow = refl
@@ -121,7 +121,7 @@ front_plain bytes (Some a) small narrow =
     append_assoc (numeral 16 3 a) (58 ∷ 32 ∷ []) (hex_bytes bytes ++ blanks) in
     ap (list_all is_plain) same ∙ whole
 
--- bytes that are inside leave the size of a memory
+-- bytes that are stored inside a memory don't change its size
 pub size_kept : (memory bytes : List ℕ) (addr : Option ℕ) → IfSome addr (λ a. 0 < length bytes → a + length bytes ≤ length memory) →
     length (put_at addr bytes memory) ≡ length memory
 size_kept memory bytes None inside = refl
@@ -139,7 +139,7 @@ size_kept memory (byte ∷ bytes) (Some a) inside =
 abbrev line_body : List ℕ → Line → List ℕ
 line_body source line = front line.addr line.bytes.items ++ (codes " | " ++ text_of source line.from line.to)
 
--- what a line needs so that it is read back in a memory of a size
+-- the properties of a line that is read back in a memory of the size
 pub record IsPrintable (source : List ℕ) (size : ℕ) (line : Line) : Type 0 where
   pub plain : list_all is_plain (text_of source line.from line.to) ≡ true
   pub bytes : AreBytes line.bytes.items

@@ -1,4 +1,4 @@
--- What is printed of an accepted source is read back.
+-- The printed object text of an accepted source, read back, gives the source's image.
 use Rattle.std.proofs.Common.{ℕ, ◌^◌, ◌<◌, ◌≤◌, List, replicate, All, IfSome, Option, Some, None, Ok, ap, sym, subst, ◌∙◌, arith}
 use Rattle.std.proofs.lemmas.List.{length-replicate}
 use Rattle.yas_asm.specs.declared.listing.Line.{Line}

@@ -1,4 +1,4 @@
--- Of the reasons that hold of a line the least is told.
+-- The fault of a line is the first of the reasons that apply to it.
 use Rattle.std.proofs.Common.{◌≡◌, ◌≤◌, ap, sym, subst, ◌∙◌, ℕ, Bool, true, false, cond, List, [], ◌∷◌, Option, None, Some, Ok, Err, refl}
 use Rattle.std.specs.Prelude.{is_none, not, ◌||◌, nat_le}
 use Rattle.std.specs.List.{list_all}
@@ -17,7 +17,7 @@ use Rattle.yas_laws.proofs.FaultLemmas.{lines_follow}
 abbrev reasons : List AsmWhy
 reasons = Syntax ∷ BadByte ∷ NumberTooWide ∷ LabelTwice ∷ LabelUnknown ∷ OutsideMemory ∷ Overlap ∷ LabelLimit ∷ Memory ∷ []
 
--- what holds of the list of all reasons holds of each
+-- a test that passes on the list of all reasons passes for each
 each : (test : AsmWhy → Bool) → list_all test reasons ≡ true → (why : AsmWhy) → test why ≡ true
 each test e why =
     let t1 = and_parts _ _ e in
@@ -43,7 +43,7 @@ each test e why =
     by a b c d e f g h i LabelLimit = h
     by a b c d e f g h i Memory = i
 
--- a reason that holds, where no lower one does
+-- a reason that applies if no earlier one does
 least : (test : AsmWhy → Bool) (why : AsmWhy) → test why ≡ true → list_all (λ other. nat_le (rank why) (rank other) || not (test other)) reasons ≡ true → IsLeast test (Some why)
 least test why here e =
     (here, λ other h. by (nat_le (rank why) (rank other)) other refl h (each (λ other. nat_le (rank why) (rank other) || not (test other)) e other))
@@ -63,7 +63,7 @@ same_test : (test other : AsmWhy → Bool) → ((why : AsmWhy) → test why ≡ 
 same_test test other same None h = λ why. sym (same why) ∙ h why
 same_test test other same (Some why) h = (sym (same why) ∙ h.0, λ next e. h.1 next (same next ∙ e))
 
--- the tests of a line of the form, one for each reason
+-- the tests of a well-formed line, one for each reason
 abbrev told : Bool → Bool → Bool → Bool → Bool → Bool → AsmWhy → Bool
 told wide twice unknown outside overlap limit NumberTooWide = wide
 told wide twice unknown outside overlap limit LabelTwice = twice

@@ -1,4 +1,4 @@
--- A line and the line squeezed are read alike.
+-- A line and the squeezed line are read alike.
 use Rattle.std.proofs.Common.{◌≡◌, ap, sym, subst, ◌∙◌, ℕ, Bool, true, false, cond, List, Option, None, Some, refl}
 use Rattle.std.specs.Prelude.{not, ◌&&◌, unwrap_or}
 use Rattle.std.proofs.lemmas.Bool.{false≢true}
@@ -21,7 +21,7 @@ use Rattle.yas_asm.specs.Grammar.{◌>>=◌, instruction, word_of, operand_from,
 use Rattle.yas_asm.specs.Spacing.{squeezed}
 use Rattle.yas_laws.proofs.SpacingLemmas.{Moved, Passed, name-moved, number-moved, register-moved, directive-moved, sign-passed, next_is-squeezed, ends-squeezed}
 
--- a step behind a reading
+-- a step after a reading
 then_moved : {A B : Type 0} (o' o : Option (A × List ℕ)) (f : A × List ℕ → Option (B × List ℕ)) → Moved o' o
     → ((x : A) (close : Bool) (rest : List ℕ) → Moved (f (x, squeezed close rest)) (f (x, rest))) → Moved (o' >>= f) (o >>= f)
 then_moved None None f m h = tt
@@ -30,7 +30,7 @@ then_moved (Some x) None f m h = absurd m
 then_moved {A} {B} (Some x) (Some y) f m h =
     subst (λ (p : A × List ℕ). Moved (f p) (f y)) (λ i. (sym m.0 i, sym m.1.1 i)) (h y.0 m.1.0 y.1)
 
--- and behind a sign
+-- and after a sign
 then_passed : {B : Type 0} (o' o : Option (List ℕ)) (f : List ℕ → Option (B × List ℕ)) → Passed o' o
     → ((close : Bool) (rest : List ℕ) → Moved (f (squeezed close rest)) (f rest)) → Moved (o' >>= f) (o >>= f)
 then_passed None None f m h = tt
@@ -190,7 +190,7 @@ last_statement-same variant close bytes =
     ap (λ b. cond b (Some statements.Nothing) (statement variant (squeezed close bytes) >>= (λ s. cond (ends s.1) (Some s.0) None))) (ends-squeezed close bytes)
     ∙ ap (λ o. cond (ends bytes) (Some statements.Nothing) o) (at_end (statement variant (squeezed close bytes)) (statement variant bytes) (statement-moved variant close bytes))
 
--- a line squeezed says what the line says
+-- a squeezed line has the content of the line
 pub line-squeezed : (variant : Variant) (close : Bool) (bytes : List ℕ) → line variant (squeezed close bytes) ≡ line variant bytes
 unfolding line
 line-squeezed variant close bytes =

@@ -1,4 +1,4 @@
--- Two sources that differ in comments and blanks alone have the same addresses and bytes, or the same fault.
+-- Two sources that differ only in comments and blanks have the same addresses and bytes, or the same fault.
 use Rattle.std.proofs.Common.{◌≡◌, ◌+◌, ap, sym, ◌∙◌, ℕ, Bool, true, false, cond, zero, suc, List, [], ◌∷◌, ◌++◌, length, map, drop, fold, Option, None, Some, Result, Ok, Err, refl, arith}
 use Rattle.std.specs.Prelude.{nat_le, not, ◌&&◌, ◌==◌, ◌||◌}
 use Rattle.std.specs.List.{list_all}
@@ -20,7 +20,7 @@ use Rattle.yas_laws.proofs.SpacingLemmas.{after_blanks-blank, after_blanks-other
 use Rattle.yas_laws.proofs.SpacingGrammar.{line-squeezed}
 use Rattle.yas_laws.proofs.SweepLaw.{all_good, at_byte, sweep_passes_comments}
 
--- ---- a line squeezed has a bad byte outside its comments exactly where the line has one
+-- ---- a squeezed line has a bad byte outside its comments exactly if the line has one
 
 blank_good : (byte : ℕ) → is_blank byte ≡ true → is_good byte ≡ true
 blank_good byte e = ap (λ b. b || (nat_le 33 byte && nat_le byte 126)) e
@@ -90,7 +90,7 @@ bad-squeezed close (byte ∷ bytes) = by (ends (byte ∷ bytes)) (is_blank byte)
         ∙ at_byte byte (squeezed (is_sign byte) bytes) (no_comment byte (squeezed (is_sign byte) bytes) h v)
         ∙ ap (λ b. not (is_good byte) || b) (rest (is_sign byte)) ∙ sym (at_byte byte bytes (no_comment byte bytes h v))
 
--- ---- lines that are the same squeezed are read alike
+-- ---- lines that are the same when squeezed are read alike
 
 reads_alike : (variant : Variant) (one other : List ℕ) → squeezed true one ≡ squeezed true other → read_line variant one ≡ read_line variant other
 unfolding read_line
@@ -143,7 +143,7 @@ listing-stripped variant size table from (line ∷ all) =
     ap (λ p. p ∷ map place_of (listing variant size table (from + length line.text + 1) all)) (place_of-listed variant size table from (from + length line.text) line.address line.read)
     ∙ ap (λ ps. shown variant size table (stripped line) ∷ ps) (listing-stripped variant size table (from + length line.text + 1) all)
 
--- the first fault of lines follows from their addresses and what they say
+-- the first fault of lines depends only on their addresses and contents
 faults_alike : (variant : Variant) (size : ℕ) (table known : List (List ℕ × ℕ)) (used : List ℕ) (passed : ℕ) (ones others : List Placed) → map stripped ones ≡ map stripped others
     → faults_from variant size table known used passed ones ≡ faults_from variant size table known used passed others
 unfolding faults_from

@@ -1,4 +1,4 @@
--- Every reader of tokens gives the same from a line and from the line squeezed.
+-- Every reader of tokens gives the same result for a line and for the squeezed line.
 use Rattle.std.proofs.Common.{◌≡◌, ◌+◌, ap, sym, subst, ◌∙◌, ℕ, suc, Bool, true, false, cond, List, [], ◌∷◌, length, take, drop, Option, None, Some, refl, arith}
 use Rattle.std.specs.Prelude.{nat_eq, not, ◌&&◌, ◌||◌, ◌==◌, codes, take_while, unwrap_or}
 use Rattle.std.specs.List.{list_all, starts_with, prefix_len}
@@ -20,7 +20,7 @@ use Rattle.yas_asm.specs.Spacing.{is_sign, squeezed}
 abbrev pub stops : ℕ → Bool
 stops byte = is_blank byte || is_sign byte || byte == 35 || byte == 47
 
--- what a byte that stops no token isn't
+-- a byte that stops no token is none of these
 pub record IsPlain (byte : ℕ) : Type 0 where
   pub blank : is_blank byte ≡ false
   pub sign : is_sign byte ≡ false
@@ -71,7 +71,7 @@ after_blanks-blank byte bytes e = by (is_blank byte) e
     by true e = rw one-add refl
     by false e = absurd (false≢true e)
 
--- what stands behind blanks begins with none
+-- what follows blanks doesn't begin with a blank
 no_blank : (bytes : List ℕ) → begins is_blank (behind is_blank bytes) ≡ false
 no_blank [] = refl
 no_blank (byte ∷ bytes) = by (is_blank byte) refl (no_blank bytes)
@@ -111,7 +111,7 @@ hash_ends byte bytes h = by (byte == 35) h
         nothing (x ∷ xs) = nothing xs
     by false h = absurd (false≢true h)
 
--- a line squeezed, case by case
+-- squeezing a line, case by case
 pub squeezed-end : (close : Bool) (byte : ℕ) (bytes : List ℕ) → ends (byte ∷ bytes) ≡ true → squeezed close (byte ∷ bytes) ≡ []
 unfolding squeezed
 squeezed-end close byte bytes e = by (ends (byte ∷ bytes)) e _
@@ -162,7 +162,7 @@ pub squeezed-none : (close : Bool) → squeezed close [] ≡ []
 unfolding squeezed
 squeezed-none close = refl
 
--- what is in front of a byte that is no blank doesn't matter to it
+-- for a byte that is no blank, it doesn't matter what is in front of it
 squeezed-head : (f g : Bool) (byte : ℕ) (bytes : List ℕ) → is_blank byte ≡ false → squeezed f (byte ∷ bytes) ≡ squeezed g (byte ∷ bytes)
 squeezed-head f g byte bytes b = by (ends (byte ∷ bytes)) (byte == 47) refl refl
   where
@@ -204,7 +204,7 @@ after_blanks-squeezed f g (byte ∷ bytes) = by (ends (byte ∷ bytes)) (is_blan
     by false false e t rest =
         kept (byte == 47) e t refl ∙ squeezed-head f g byte bytes t ∙ sym (ap (squeezed g) (after_blanks-other byte bytes t))
 
--- a test of bytes that no stop passes, as that of the bytes of a name
+-- a test that no stop passes, such as that of the bytes of a name
 pub IsInner : (ℕ → Bool) → Type 0
 IsInner test = (byte : ℕ) → test byte ≡ true → stops byte ≡ false
 
@@ -227,7 +227,7 @@ unfolding IsOuter
 begins_skip test outer [] e = absurd (false≢true e)
 begins_skip test outer (byte ∷ bytes) e = outer byte e
 
--- a byte that fails the test stays in front, or one that fails it too comes there
+-- if the first byte fails the test, so does the first byte of the squeezed line
 begins-squeezed : (test : ℕ → Bool) → IsOuter test → (bytes : List ℕ) → begins test bytes ≡ false → begins test (squeezed false bytes) ≡ false
 unfolding IsOuter
 begins-squeezed test outer [] e = ap (begins test) (squeezed-none false)
@@ -248,7 +248,7 @@ begins-squeezed test outer (byte ∷ bytes) e = by (ends (byte ∷ bytes)) (is_b
     by false false true t u v rest = ap (begins test) (squeezed-slash false byte bytes t u v) ∙ e
     by false false false t u v rest = ap (begins test) (squeezed-other false byte bytes t u v) ∙ e
 
--- the bytes in front that pass a test, and those behind them
+-- the bytes in front that pass a test, and those after them
 abbrev pub split : (ℕ → Bool) → List ℕ → List ℕ × List ℕ
 split test bytes = (take_while test bytes, behind test bytes)
 
@@ -333,7 +333,7 @@ inner_hex : IsInner is_hex
 unfolding IsInner
 inner_hex byte e = grind (arith, nat_tests)
 
--- each reader reads behind the blanks in front
+-- each reader reads after the blanks in front
 module _ {A : Type 0} (read : List ℕ → Option (A × List ℕ)) (at : (text : List ℕ) → Moved (read (squeezed false text)) (read text)) where
   behind_blanks : (close : Bool) (bytes : List ℕ) → Moved (read (behind is_blank (squeezed close bytes))) (read (behind is_blank bytes))
   behind_blanks close bytes =
@@ -443,7 +443,7 @@ inner_minus : IsInner (λ byte. byte == 45)
 unfolding IsInner
 inner_minus byte e = ap stops (eqb-true byte 45 e)
 
--- what stands behind a byte, by its test
+-- what follows a byte, by a test of it
 after_byte_is : (w : ℕ) (text : List ℕ) → after_byte w text ≡ cond (begins (λ byte. byte == w) text) (Some (drop 1 text)) None
 after_byte_is w [] = refl
 after_byte_is w (byte ∷ text) = refl

@@ -1,4 +1,4 @@
--- The sweep for bad bytes: what it passes, and two lines on which it is plain what it finds.
+-- The sweep for bad bytes: what it passes, and two kinds of lines for which its result is obvious.
 use Rattle.std.proofs.Common.{◌≡◌, ◌+◌, ◌<◌, ◌≤◌, ap, sym, ◌∙◌, ℕ, zero, suc, ◌-◌, Bool, true, false, cond, List, [], ◌∷◌, ◌++◌, length, drop, refl, arith}
 use Rattle.std.specs.Prelude.{nat_eq, not, ◌&&◌, ◌||◌, ◌==◌, codes}
 use Rattle.std.specs.List.{list_all, starts_with}

@@ -1,4 +1,4 @@
--- Where the text of each line stands, and what `.align` goes to.
+-- The place of each line's text in the source, and the address to which `.align` leads.
 use Rattle.std.proofs.Common.{◌≡◌, ◌+◌, ◌-◌, ◌*◌, ◌/◌, ◌%◌, ◌<◌, ◌≤◌, ap, sym, ◌∙◌, ℕ, Bool, true, false, cond, List, [], ◌∷◌, length, take, drop, map, Result, Ok, Err, refl, arith, slice_range}
 use Rattle.std.specs.List.{position_or_len}
 use Rattle.std.proofs.Math.Nat.{mul-mod_left, mul-le-mul_left}
@@ -51,7 +51,7 @@ drop_twice n m bytes = grind (arith, common_steps)
 length_first : (bytes : List ℕ) → length (take (position_or_len is_line_feed bytes) bytes) ≡ position_or_len is_line_feed bytes
 length_first bytes = length-prefix_len (λ byte. not (is_line_feed byte)) bytes
 
--- the first line of a text is its beginning, and the other lines are those of what stands behind its line feed
+-- the first line of a text is its beginning, and the other lines are those of the text after its line feed
 first_text : (bytes text : List ℕ) (texts : List (List ℕ)) → lines bytes ≡ text ∷ texts
     → (take (length text) bytes ≡ text) × (lines (drop (length text + 1) bytes) ≡ texts)
 first_text [] text texts e = absurd (no_cons text texts e)

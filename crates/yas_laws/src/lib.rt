@@ -1,5 +1,6 @@
-//! What the definitions of assembly and object text say together: sources as lists of lines, their labels, listings and images, and
-//! what object text loads. Theorems about `yas_asm` and `yo_object`; it has no code.
+//! Theorems about `yas_asm` and `yo_object`; it has no code. They state what the definitions of assembly and object
+//! text mean together: sources as lists of lines, their labels, listings and images, and the images that object text
+//! loads.
 #![tactic(auto)]
 
 mod objects;

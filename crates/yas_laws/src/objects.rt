@@ -1,18 +1,19 @@
-//! What the definitions of object text say together.
+//! Theorems about object text: which lines it reads, what it loads, and that what is printed is read back.
 ghost use Rattle.yo_object.specs.Grammar.{ReadsTheForm, SkipsTheRest};
 ghost use Rattle.yo_object.specs.LoadedText.{AcceptsGoodLines, HasItsSize, IsZeroWithoutLine, LastLineWins, RefusesFirstFault};
 ghost use Rattle.yo_object.specs.ReadBack.{EmitsAtAddresses, FitsItsSize, HasItsBytes, IsReadBack, IsZeroElsewhere};
 
-/// The definition of object text and the grammar of a line agree: just the lines of the form are read, with
-/// their digits, and just the lines that don't begin with `0x` behind blanks are skipped.
+/// The definition of object text and the grammar of a line agree: exactly the well-formed lines are read, with
+/// their digits, and exactly the lines that don't begin with `0x` after blanks are skipped.
 pub fn law_of_object_lines()
     ensures form { ReadsTheForm }
     ensures skipped { SkipsTheRest }
 {}
 
-/// A text is accepted just where each of its lines is skipped or puts its bytes inside the memory. The byte at an address is
-/// then that of the last line that puts one there, and 0 where no line does. A text that is refused is refused for the first
-/// line with a fault, and for the first reason in the order Syntax, AddressTooWide, OddDigits, OutsideMemory.
+/// A text is accepted exactly if each of its lines is skipped or stores its bytes inside the memory. The byte at an
+/// address is then the one from the last line that stores one there, and 0 if no line does. A text that is refused is
+/// refused for the first line with a fault, and for the first reason in the order Syntax, AddressTooWide, OddDigits,
+/// OutsideMemory.
 pub fn law_of_loads()
     ensures accepted { AcceptsGoodLines }
     ensures refused { RefusesFirstFault }
@@ -21,9 +22,9 @@ pub fn law_of_loads()
     ensures zeros { IsZeroWithoutLine }
 {}
 
-/// What is printed of an accepted source is read back: at each size of an image that holds the bytes of its listing, `load`
-/// accepts the text that `print` gives, and the image has these bytes at their addresses and 0 elsewhere. The size for which the
-/// source was assembled is such a size.
+/// The printed text of an accepted source is read back. At each size of an image that holds the bytes of its listing,
+/// `load` accepts the text that `print` returns, and the image has these bytes at their addresses and 0 elsewhere. The
+/// size for which the source was assembled is one of these sizes.
 pub fn law_of_printing()
     ensures same_image { IsReadBack }
     ensures own_size { FitsItsSize }

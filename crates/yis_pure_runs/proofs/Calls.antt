@@ -1,4 +1,4 @@
--- The run of examples/call.yo, computed.
+-- The run of examples/programs/call.yo, computed.
 use Rattle.std.proofs.Common.{◌≡◌, ◌⊎◌, ℕ, zero, suc, ◌+◌, ◌-◌, ◌<◌, nat_le, nat_lt, ltb, Bool, true, false, List, ◌++◌, length, replicate, take, Option, Some, None, refl, ap, ◌∙◌, subst, inl, inr, arith}
 use Rattle.std.specs.List.{list_all}
 use Rattle.std.proofs.lemmas.Bool.{leb-true, ltb-false, ltb-true}
@@ -46,11 +46,11 @@ call_small = bytes_by (call_bytes ++ replicate 491 0) refl
 pub call_is_image : IsImage call_image
 call_is_image = record { sized = call_sized; bytes = call_small }
 
--- where the instruction at a machine's PC ends
+-- the address after the last byte that the instruction at a machine's PC fetches
 abbrev end_of : Variant → Machine → ℕ
 end_of v m = m.pc + fetched_count v m.mem m.pc
 
--- where the store of a record begins, and 248 where it has none
+-- the address at which the store of a record begins; 248 if it has none
 abbrev store_from : Option Store → ℕ
 store_from None = 248
 store_from (Some s) = s.addr
@@ -102,7 +102,7 @@ high_at v (suc (suc (suc (suc i)))) lt = absurd (omega (arith, lt))
 
 -- ---- all steps
 
--- behind the halt the machine stays
+-- after the halt the machine doesn't change
 stays : (v : Variant) (k : ℕ) → run v call_image (k + 4) ≡ run v call_image 4
 stays v zero = refl
 stays v (suc k) =
@@ -122,7 +122,7 @@ early v i = by (ltb i 4) refl
         let sum : (i - 4) + 4 ≡ i = omega (arith, ltb-false i 4 e) in
         inr (subst (λ n. run v call_image n ≡ run v call_image 4) sum (stays v (i - 4)))
 
--- each instruction ends at 248 at the latest, and each store begins there
+-- each instruction ends at or before 248, and each store begins there
 pub call_apart : (v : Variant) (n : ℕ) → StoresAvoidCode v call_image n
 call_apart v n i j r store within earlier on told is = by (early v i)
   where

@@ -1,4 +1,4 @@
--- Where no instruction fetches what one of the three before it stored, it is fetched early alike.
+-- If no instruction fetches what one of the three before it stored, it could be fetched up to three steps early.
 use Rattle.std.proofs.Common.{◌≡◌, ℕ, zero, suc, ◌+◌, ◌-◌, ◌<◌, ◌≤◌, List, slice_get, sym, ap, ◌∙◌, arith}
 use Rattle.y86_base.specs.Image.{IsImage}
 use Rattle.y86_base.specs.declared.parts.Stat.TheVariants.{Aok}
@@ -14,14 +14,14 @@ use Rattle.y86_isa.proofs.Steps.{mem-advance}
 use Rattle.yis_pure_runs.specs.Near.{NearPure, StoresNearlyApart}
 use Rattle.yis_pure_runs.proofs.Purity.{pair_apart, pair_pure}
 
--- what is pure is nearly so, and for fewer steps too
+-- a pure image is nearly pure, also for fewer steps
 pub near_from_pure : (v : Variant) (image : List ℕ) (n : ℕ) → Pure v image n → NearPure v image n
 near_from_pure v image n pure i j address within earlier near on fetched stored = pure i j address within earlier on fetched stored
 
 pub near_fewer : (v : Variant) (image : List ℕ) (n k : ℕ) → k ≤ n → NearPure v image n → NearPure v image k
 near_fewer v image n k le pure i j address within = pure i j address (omega arith)
 
--- by stores that lie apart
+-- near purity from stores apart from the code, and conversely
 pub near_apart : (v : Variant) (image : List ℕ) (n : ℕ) → StoresNearlyApart v image n → NearPure v image n
 near_apart v image n apart i j address within earlier near on fetched stored =
     pair_pure v (run v image i) (retired v (run v image j)) address (λ r s told is. apart i j r s within earlier near on told is) fetched stored
@@ -30,7 +30,7 @@ pub apart_near : (v : Variant) (image : List ℕ) (n : ℕ) → NearPure v image
 apart_near v image n pure i j r s within earlier near on told is =
     pair_apart v image i j r s (λ address fetched stored. pure i j address within earlier near on fetched stored) told is
 
--- ---- the bytes that are fetched stand in memory three steps before
+-- ---- the fetched bytes are in memory three steps before
 same_byte : (v : Variant) (image : List ℕ) (n i address : ℕ) → NearPure v image n → i < n → (run v image i).stat ≡ Aok →
     IsFetched v (run v image i).mem (run v image i).pc address → (d j : ℕ) → j + d ≡ i → i ≤ j + 3 →
     slice_get (run v image j).mem address ≡ slice_get (run v image i).mem address

@@ -1,4 +1,4 @@
--- Images whose instructions fetch nothing that was stored before.
+-- Images whose instructions fetch nothing that an earlier instruction stored.
 use Rattle.std.proofs.Common.{◌≡◌, ◌⊎◌, ℕ, ◌+◌, ◌<◌, ◌≤◌, not, Bool, true, false, cond, nat_le, List, Option, Some, None, get_or, length, refl, sym, ap, ◌∙◌, subst, inl, inr, arith}
 use Rattle.std.specs.Prelude.{is_none}
 use Rattle.std.proofs.lemmas.Bool.{cases_lt, leb-true}
@@ -24,9 +24,9 @@ use Rattle.y86_isa.proofs.Steps.Advances.{stays, stops, goes}
 use Rattle.y86_isa.proofs.Works.{FollowsRow-work}
 use Rattle.yis_pure_runs.specs.Purity.{AvoidsStore, StoresAvoidCode}
 
--- ---- where stores lie apart, none of their bytes is fetched
+-- ---- if stores are apart from the code, none of their bytes is fetched
 
--- a byte of a store that lies apart is not fetched
+-- a byte of a store that is apart from the instruction is not fetched
 not_both : (v : Variant) (m : Machine) (address : ℕ) (o : Option Store) → ((s : Store) → o ≡ Some s → AvoidsStore v m s) →
     IsFetched v m.mem m.pc address → IsInStore o address → ⊥
 not_both v m address None apart fetched inside = inside
@@ -36,7 +36,7 @@ not_both v m address (Some s) apart fetched inside = by (apart s refl)
     by (inl front) = absurd (omega (arith, front, fetched.from, inside.0, inside.1))
     by (inr behind) = absurd (omega (arith, behind, fetched.to, inside.0, inside.1))
 
--- the same of the store of what retired
+-- the same for the store of a record
 pub pair_pure : (v : Variant) (m : Machine) (o : Option Rec) (address : ℕ) → ((r : Rec) (s : Store) → o ≡ Some r → r.store ≡ Some s → AvoidsStore v m s) →
     IsFetched v m.mem m.pc address → IsStoredBy o address → ⊥
 pair_pure v m None address apart fetched stored = stored
@@ -46,9 +46,9 @@ pub pure_apart : (v : Variant) (image : List ℕ) (n : ℕ) → StoresAvoidCode 
 pure_apart v image n apart i j address within earlier on fetched stored =
     pair_pure v (run v image i) (retired v (run v image j)) address (λ r s told is. apart i j r s within earlier on told is) fetched stored
 
--- ---- where no byte of a store is fetched, it lies apart
+-- ---- if no byte of a store is fetched, the store is apart from the code
 
--- an instruction whose first byte is inside fetches some
+-- an instruction whose first byte is inside memory fetches at least one byte
 some_counted : (v : Variant) (byte : ℕ) → 0 < count_by_first v (Some byte)
 some_counted v byte = by (is_instruction v (high_half byte) (low_half byte))
   where
@@ -81,7 +81,7 @@ apart_unless_both v m s inside neither = before (cases_lt m.pc (s.addr + 8))
 
 -- ---- the store of a record is inside memory
 
--- a store that is done, where b says that it is inside
+-- a store that takes place; b says that it is inside
 done : (b : Bool) (address word x : ℕ) (s : Store) → cond (not (is_none (cond b (Some x) None))) (Some (record { addr = address; word = word })) None ≡ Some s →
     (b ≡ true) × (address ≡ s.addr)
 done true address word x s e = (refl, ap (λ (t : Store). t.addr) (same_Some (record { addr = address; word = word }) s e))
@@ -127,7 +127,7 @@ stored_inside v m _ _ r s (stays e) is has = absurd (cc is)
 stored_inside v m _ _ r s (stops e w) is has = record_inside v m r s is has
 stored_inside v m _ _ r s (goes e w) is has = record_inside v m r s is has
 
--- a store of step j lies apart from the instruction at step i where that fetches none of its bytes
+-- a store of step j is apart from the instruction of step i, if that fetches none of its bytes
 pub pair_apart : (v : Variant) (image : List ℕ) (i j : ℕ) (r : Rec) (s : Store) →
     ((address : ℕ) → IsFetched v (run v image i).mem (run v image i).pc address → IsStoredBy (retired v (run v image j)) address → ⊥) →
     retired v (run v image j) ≡ Some r → r.store ≡ Some s → AvoidsStore v (run v image i) s

@@ -1,4 +1,4 @@
--- Stores that lie apart from the instructions behind them, and an image whose stores do.
+-- Stores that are apart from the instructions after them, and an image whose stores are.
 use Rattle.std.specs.Prelude.{◌≡◌, ◌⊎◌, ℕ, ◌+◌, ◌<◌, ◌≤◌, List, [], ◌∷◌, ◌++◌, replicate, Some}
 use Rattle.y86_base.specs.declared.parts.Stat.TheVariants.{Aok}
 use Rattle.y86_base.specs.declared.parts.Variant.{Variant}
@@ -8,11 +8,11 @@ use Rattle.y86_isa.specs.declared.machine.Store.{Store}
 use Rattle.y86_isa.specs.Step.{retired}
 use Rattle.y86_isa.specs.Run.{run, fetched_count}
 
--- the 8 bytes of a store lie wholly before those that the instruction at a machine's PC fetches, or wholly behind them
+-- the 8 bytes of a store are all before those that the instruction at a machine's PC fetches, or all after them
 abbrev pub AvoidsStore : Variant → Machine → Store → Type 0
 AvoidsStore v m store = (store.addr + 8 ≤ m.pc) ⊎ (m.pc + fetched_count v m.mem m.pc ≤ store.addr)
 
--- so lies each store of an instruction for each later one among the first n
+-- each store of an instruction is apart from each later instruction among the first n
 abbrev pub StoresAvoidCode : Variant → List ℕ → ℕ → Type 0
 StoresAvoidCode v image n =
     (i j : ℕ) (r : Rec) (store : Store) → i < n → j < i → (run v image i).stat ≡ Aok →

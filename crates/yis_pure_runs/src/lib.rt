@@ -1,5 +1,5 @@
-//! Programs that fetch nothing that they stored, or nothing that they have just stored: which images are such
-//! programs, and an example.
+//! Programs that fetch nothing that they stored, or nothing that they have just stored: which images are such programs,
+//! and an example. The pipeline's theorem is about these programs.
 #![tactic(auto)]
 
 mod laws;

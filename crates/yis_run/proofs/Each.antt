@@ -1,4 +1,4 @@
--- Texts of 0 up to a number, written one after another.
+-- The texts for the numbers from 0 to n - 1, written one after another.
 use Rattle.std.proofs.Common.{◌≡◌, ℕ, zero, suc, ◌+◌, ◌<◌, ◌≤◌, List, [], ◌∷◌, ◌++◌, map, Option, refl, ap, sym, subst, ◌∙◌, arith, append_assoc, append-nil, inl, inr, ◌⊎◌, add-one}
 use Rattle.std.specs.List.{concat, range_with_len}
 use Rattle.std.proofs.lemmas.Bool.{cases_lt}
@@ -26,12 +26,12 @@ each_below-suc n text = rw (← add-one n) (each_below-more n text)
 pub took_none : (sink : Option (List ℕ)) (text : ℕ → List ℕ) → Appended sink sink (each_below 0 text)
 took_none sink text = rw each_below-zero (took_nothing sink)
 
--- the first texts, and then one more
+-- the first texts, then one more
 pub took_each : (first second third : Option (List ℕ)) (n : ℕ) (text : ℕ → List ℕ) →
     Appended first second (each_below n text) → Appended second third (text n) → Appended first third (each_below (n + 1) text)
 took_each first second third n text p q = rw each_below-more (took_more first second third (each_below n text) (text n) p q)
 
--- the first texts are a front of all
+-- the first texts are a prefix of all
 front_each : (n all : ℕ) (text : ℕ → List ℕ) → n ≤ all → (rest : List ℕ) × (each_below all text ≡ each_below n text ++ rest)
 front_each n zero text h = let e : n ≡ 0 = omega arith in ([], rw e (sym (append-nil (each_below 0 text))))
 front_each n (suc all) text h =
@@ -45,7 +45,7 @@ front_each n (suc all) text h =
     last : (n all : ℕ) → n ≤ suc all → (n ≡ suc all) ⊎ (n ≤ all)
     last n all h = elim (cases_lt all n) [ inl l ↦ inl (omega arith) | inr g ↦ inr g ]
 
--- the first texts, and then a front of the next
+-- the first texts, then a prefix of the next
 pub part_each : (first second third : Option (List ℕ)) (n all : ℕ) (text : ℕ → List ℕ) → n < all →
     Appended first second (each_below n text) → AppendedPrefix second third (text n) → AppendedPrefix first third (each_below all text)
 part_each first second third n all text h p q =

@@ -73,7 +73,7 @@ module _ (start end : ℕ → ℕ) (n : ℕ) where
         λ h. some.0 (member number ∙ and_from _ _ (all.1 (contained-from_below n number h.0)) (differ_test (start number) (end number) h.1)),
       )
 
--- lines that are left out where two words are alike list the changes
+-- lines with those omitted at which two words are equal list the changes
 changes_of_lines : (start end : ℕ → ℕ) (name : ℕ → List ℕ) (n : ℕ) →
     ListsChanges start end name n (each_below n (λ k. cond (start k == end k) [] (change (name k) (start k) (end k))))
 unfolding each_below

@@ -1,4 +1,4 @@
--- A run that goes on after it has stopped: the machine stays, and no record is added.
+-- A run that continues after it has stopped: the machine doesn't change, and no record is added.
 use Rattle.std.proofs.Common.{◌≡◌, ℕ, zero, suc, ◌+◌, ◌-◌, ◌≤◌, false, [], ◌∷◌, ◌++◌, length, Some, None, sym, ap, ◌∙◌, arith, append-nil, length-append}
 use Rattle.std.specs.Option.{option_to_list}
 use Rattle.y86_base.specs.declared.parts.Variant.{Variant}
@@ -27,7 +27,7 @@ module _ (v : Variant) (m now : Machine) (n : ℕ) (at : now ≡ run_from v m n)
   has_stopped : retired v now ≡ None → is_aok (run_from v m n).stat ≡ false
   has_stopped none = stopped-from_none v (run_from v m n) (ap (retired v) (sym at) ∙ none)
 
-  -- where a step leaves no record, the machine is that at the end of any longer run
+  -- if a step leaves no record, the machine is the one at the end of any longer run
   pub machine_at_end : (limit : ℕ) (after : Machine) → n ≤ limit → retired v now ≡ None → after ≡ advance v now → after ≡ run_from v m limit
   machine_at_end limit after within none e =
       let h = has_stopped none in
@@ -41,11 +41,11 @@ module _ (v : Variant) (m now : Machine) (n : ℕ) (at : now ≡ run_from v m n)
       let all : n + (limit - n) ≡ limit = omega arith in
       count ∙ ap length (sym (adds_none v m n (limit - n) h) ∙ ap (records_from v m) all)
 
-  -- one step more
+  -- after one more step
   pub machine_after_step : (after : Machine) → after ≡ advance v now → after ≡ run_from v m (n + 1)
   machine_after_step after e = e ∙ ap (advance v) at ∙ sym (run_from-last v m n)
 
-  -- its record is one more
+  -- the step adds one record
   pub records_after_step : (rec : Rec) → retired v now ≡ Some rec → n ≡ length (records_from v m n) → n + 1 ≡ length (records_from v m (n + 1))
   records_after_step rec some count =
       let e : records_from v m (n + 1) ≡ records_from v m n ++ rec ∷ [] = records_from-last v m n ∙ ap (λ r. records_from v m n ++ option_to_list r) (ap (retired v) (sym at) ∙ some) in

@@ -1,4 +1,4 @@
--- A byte of an image is as at the start where its aligned word is.
+-- If an aligned word of an image is as at the start, so is each of its bytes.
 use Rattle.std.proofs.Common.{◌≡◌, ℕ, ◌+◌, ◌-◌, ◌*◌, ◌/◌, ◌<◌, ◌≤◌, inl, inr, true, nat_le, List, length, take, drop, get_or, unwrap_or, slice_get, All, refl, sym, ap, ◌∙◌, arith, length-take, length-drop}
 use Rattle.std.specs.Int.{from_le_bytes, w64}
 use Rattle.std.proofs.lemmas.Bool.{cases_lt, le-leb}

@@ -1,11 +1,11 @@
--- What a report tells, in the terms of its reader.
+-- What a reader may conclude from a report.
 use Rattle.std.specs.Prelude.{◌≡◌, ◌≢◌, ℕ, ◌<◌, ◌↔◌, List, map}
 use Rattle.std.specs.List.{Contains, concat}
 use Rattle.std.specs.List.Sorted.{IsStrictlyIncreasing}
 use Rattle.yis_run.specs.Report.{change}
 
--- a text of one line for each number below n at which the word at the end isn't that at the start, in ascending order, and of
--- nothing else
+-- a text of one line for each number below n at which the word at the end isn't the one at the start, in ascending
+-- order, and of nothing else
 pub record ListsChanges (start end : ℕ → ℕ) (name : ℕ → List ℕ) (n : ℕ) (text : List ℕ) : Type 0 where
   pub numbers : List ℕ
   pub ascending : IsStrictlyIncreasing numbers

@@ -26,7 +26,7 @@ unfoldable pub change : List ℕ → ℕ → ℕ → List ℕ
 change name old new =
     name ++ concat (codes ":\t0x" ∷ numeral 16 16 old ∷ codes "\t0x" ∷ numeral 16 16 new ∷ codes "\n" ∷ [])
 
--- the line of a register, which is 0 at the start; none where it is 0 at the end too
+-- the line of a register, which is 0 at the start; no line if it is 0 at the end too
 unfoldable pub register_line : List ℕ → ℕ → List ℕ
 register_line registers number =
     if register registers number == 0 then [] else change (register_name number) 0 (register registers number)
@@ -39,30 +39,30 @@ aligned_word memory number = unwrap_or (word_at memory (8 * number)) 0
 abbrev pub word_name : ℕ → List ℕ
 word_name number = codes "0x" ++ numeral 16 4 (8 * number)
 
--- the line of an aligned word of memory; none where it is as at the start
+-- the line of an aligned word of memory; no line if it is as at the start
 unfoldable pub memory_line : List ℕ → List ℕ → ℕ → List ℕ
 memory_line first memory number =
     if aligned_word first number == aligned_word memory number then []
     else change (word_name number) (aligned_word first number) (aligned_word memory number)
 
--- the texts of 0 up to n - 1, one after another
+-- the texts for 0 to n - 1, one after another
 unfoldable pub each_below : ℕ → (ℕ → List ℕ) → List ℕ
 each_below n text = concat (map text (range_with_len 0 n))
 
--- the lines of the registers, and those of the words of a memory that began as another
+-- the lines of the registers, and the lines of the words of a memory that was `first` at the start
 abbrev pub register_lines : List ℕ → List ℕ
 register_lines registers = each_below 15 (register_line registers)
 
 abbrev pub memory_lines : List ℕ → List ℕ → List ℕ
 memory_lines first memory = each_below (length first / 8) (memory_line first memory)
 
--- the report of a run that began on a memory, ended with a machine, and took so many steps
+-- the report of a run that began on the memory `first`, ended with a machine, and took this number of steps
 unfoldable pub report : List ℕ → Machine → ℕ → List ℕ
 report first machine steps =
     stopped steps machine.pc machine.stat machine.flags
     ++ codes "Changes to registers:\n" ++ register_lines machine.regs
     ++ codes "\nChanges to memory:\n" ++ memory_lines first machine.mem
 
--- the machine that a run ended with
+-- the machine with which a run ended
 abbrev pub ended : End → Machine
 ended end = record { regs = end.regs.now; flags = end.flags; pc = end.pc; stat = end.stat; mem = end.mem.now }

@@ -7,9 +7,9 @@ ghost use Rattle.y86_isa.specs.declared.machine.Machine.{Machine};
 ghost use Rattle.yis_run.specs.Laws.{ListsChanges};
 ghost use Rattle.yis_run.specs.Report.{aligned_word, memory_lines, register_lines, word_name};
 
-/// The report has a line for each register whose word at the end isn't that of the start, with both words, and one
-/// for each aligned word of memory that changed; these in ascending order, and no other line. A byte of memory whose
-/// aligned word isn't listed is as at the start.
+/// The report has a line for each register whose word at the end isn't the one at the start, with both words. It has
+/// one for each aligned word of memory that changed. These are in ascending order, and there is no other line. A byte
+/// of memory whose aligned word isn't listed is as at the start.
 pub fn law_of_report()
     ensures registers { (first : List ℕ) (m : Machine) →
         ListsChanges (register (start first).regs) (register m.regs) register_name 15 (register_lines m.regs) }

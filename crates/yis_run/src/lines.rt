@@ -51,7 +51,7 @@ pub fn put_stopped<S: Sink>(
     )
 }
 
-/// Writes the line of a change. What changed has its name in two parts.
+/// Writes the line of a change. The name of what changed is in two parts.
 #[tactic(auto, unfolding(crate::specs::Report::change))]
 fn put_change<S: Sink>(
     mark: &[u8],

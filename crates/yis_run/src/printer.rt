@@ -9,7 +9,7 @@ use crate::outcome::End;
 use wb_io::{Failed, Sink, put_all};
 use y86_base::Image;
 
-/// Writes the report of a run that began on the memory `first`. It takes no memory.
+/// Writes the report of a run that began on the memory `first`. It allocates nothing.
 ///
 /// A register was 0 at the start, so each register that isn't 0 has changed. A failed write leaves a proper
 /// prefix of the report in the sink.

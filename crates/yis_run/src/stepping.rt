@@ -1,18 +1,18 @@
-//! Runs a machine of the instruction level.
+//! Runs a machine instruction by instruction.
 ghost use Rattle.std.specs.Prelude.{◌≡◌, ◌≢◌, ◌<◌, ◌≤◌, length};
 ghost use Rattle.y86_isa.specs.Run.{records_from, run_from};
 
 use y86_base::{Stat, Variant};
 use y86_isa::{Machine, do_step};
 
-/// What a run did.
+/// The result of a run, apart from the machine, which the run changes in place.
 #[derive(Clone, Copy, Debug, PartialEq, Eq)]
 pub struct Ran {
-    /// How many instructions it did.
+    /// How many instructions it executed.
     pub steps: u64,
 }
 
-/// Runs a machine until it stops, but for at most `limit` steps. It takes no memory.
+/// Runs a machine until it stops, but for at most `limit` steps. It allocates nothing.
 pub fn run(v: Variant, m: &mut Machine, limit: u64) -> Ran
     ensures machine { m.new ≡ run_from v m.old limit }
     ensures steps { result.steps ≡ length (records_from v m.old limit) }

@@ -17,7 +17,7 @@ pub machine_before : (v : Variant) (image : List ℕ) (i : ℕ) → IsImage imag
 unfolding state_before
 machine_before v image i h = IsMachine-run_from v (start image) i (IsMachine-start image h)
 
--- behind both writes of a step
+-- after both writes of a step
 pub read_after_step : (v : Variant) (image : List ℕ) (i s : ℕ) → IsImage image → RunReaches v image i → stops_at v image i ≡ false → s < 15 →
     register (state_before v image (i + 1)).regs s
     ≡ cond (s == (work_at v image i).dst_m) (work_at v image i).val_m (cond (s == (work_at v image i).dst_e) (work_at v image i).val_e (register (state_before v image i).regs s))
@@ -42,7 +42,7 @@ source_b_lt v image i h ne =
       | inr n ↦ source_b v image i h n
     ]
 
--- a row whose ALU has no operands has no destination of valE
+-- if the ALU of a row has no operands, valE has no destination
 pub dash-from_no_operand : (v : Variant) (image : List ℕ) (i : ℕ) → has_operand_a (instruction_row v image i).alu_a ≡ false → is_dash (instruction_row v image i).dst_e ≡ true
 dash-from_no_operand v image i h =
     by (is_dash (instruction_row v image i).dst_e) (has_operand_a (instruction_row v image i).alu_a) (operands_agree v (work_at v image i).icode).destination h

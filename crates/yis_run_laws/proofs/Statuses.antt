@@ -1,4 +1,4 @@
--- The statuses that instructions end with, and their numbers.
+-- The statuses with which instructions end, and their numbers.
 use Rattle.std.proofs.Common.{◌≡◌, ℕ, Bool, true, false, not, ◌||◌, ◌==◌, cond, List, refl, sym, ap, ◌∙◌}
 use Rattle.y86_base.specs.Stat.{stat_of, stat_number}
 use Rattle.y86_base.specs.declared.parts.Stat.{Stat}

@@ -1,4 +1,4 @@
--- One instruction of a run, with all that the machine behind it takes from it.
+-- One instruction of a run, with all that determines the machine after it.
 use Rattle.std.proofs.Common.{ℕ, List}
 use Rattle.y86_base.specs.declared.parts.Variant.{Variant}
 use Rattle.y86_isa.specs.Run.{IsImage}

@@ -21,11 +21,11 @@ work_at v image i = work v (state_before v image i)
 abbrev pub instruction_row : Variant → List ℕ → ℕ → Row
 instruction_row v image i = row v (work_at v image i).icode
 
--- the run comes to instruction i: no earlier one has stopped it
+-- the run reaches instruction i: no earlier instruction has stopped it
 abbrev pub RunReaches : Variant → List ℕ → ℕ → Type 0
 RunReaches v image i = is_aok (state_before v image i).stat ≡ true
 
--- instruction i stops the run; it loads the PC from memory, as ret does
+-- instruction i stops the run; instruction i loads the PC from memory, as ret does
 abbrev pub stops_at : Variant → List ℕ → ℕ → Bool
 stops_at v image i = not (is_aok (work_at v image i).stat)
 

@@ -1,4 +1,4 @@
--- What one instruction of a run does, in the words of the subject.
+-- What one instruction of a run does, in the book's terms.
 use Rattle.std.specs.Prelude.{◌≡◌, ◌≢◌, ℕ, ◌+◌, ◌<◌, true, false, ◌==◌, List, if◌then◌else◌}
 use Rattle.y86_base.specs.Registers.{register}
 use Rattle.y86_base.specs.declared.parts.Stat.{Stat}
@@ -16,7 +16,7 @@ pub data IsStepStatus : Stat → Type 0 where
   adr : IsStepStatus Adr
   ins : IsStepStatus Ins
 
--- instruction i, to which the run comes: what it reads and computes, and how the machine behind it follows
+-- instruction i, if the run reaches it: what it reads and computes, and how the machine after it follows
 pub record StepEquations (v : Variant) (image : List ℕ) (i : ℕ) : Type 0 where
   pub machine : IsMachine (state_before v image i)
   pub fetch : FollowsFetch (fetched v (state_before v image i).mem (state_before v image i).pc) (work_at v image i)

@@ -1,4 +1,4 @@
--- Bytes put into a memory one after another, and all at once.
+-- Bytes stored in a memory one after another, and all at once.
 use Rattle.std.proofs.Common.{◌≡◌, ℕ, ◌+◌, ◌/◌, ◌^◌, ◌≤◌, Bool, true, false, cond, nat_lt, List, [], ◌∷◌, ◌++◌, length, take, drop, Some, None, refl, sym, ◌∙◌, arith, add-zero, append_assoc, ltb-false}
 use Rattle.std.proofs.Math.Seq.{sets}
 use Rattle.std.proofs.lemmas.List.{take-append-drop}
@@ -11,7 +11,7 @@ pub grouped : (memory bytes : List ℕ) (address : ℕ) →
     with_bytes memory address bytes ≡ (take address memory ++ bytes) ++ drop (address + length bytes) memory
 grouped memory bytes address = sym (append_assoc (take address memory) bytes (drop (address + length bytes) memory))
 
--- what is left to put is nothing
+-- nothing is left to store
 pub put_all : (image start left bytes : List ℕ) (at address : ℕ) → left ≡ [] → sets image at left ≡ sets start address bytes →
     address + length bytes ≤ length start → image ≡ with_bytes start address bytes
 put_all image start left bytes at address none same h =
@@ -25,7 +25,7 @@ pairs_length [] = refl
 pairs_length (high ∷ []) = refl
 pairs_length (high ∷ low ∷ digits) = omega (arith, pairs_length digits)
 
--- a number that is no word is 2^64 at least
+-- a number that is no word is at least 2^64
 pub not_a_word : (n : ℕ) → None ≡ below_word n → 2 ^ 64 ≤ n
 not_a_word n none = by (nat_lt n (2 ^ 64)) refl none
   where

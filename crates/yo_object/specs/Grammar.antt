@@ -1,10 +1,10 @@
--- The form of an object line in a grammar's words, beside the definition that reads it.
+-- The form of an object line as a grammar, to check the definition that reads it.
 use Rattle.std.specs.Prelude.{◌≡◌, ◌↔◌, ℕ, ◌<◌, true, List, ◌∷◌, ◌++◌, length, Option, Some, option_and_then}
 use Rattle.std.specs.List.{list_all}
 use Rattle.y86_base.specs.Text.{is_blank, is_hex, behind}
 use Rattle.yo_object.specs.ObjectText.{after_prefix, is_line_end, Digits, digits_of}
 
--- line = blanks "0x" address ":" blanks bytes blanks comment: the address has a digit at least, and the comment is
+-- line = blanks "0x" address ":" blanks bytes blanks comment: the address has at least one digit, and the comment is
 -- empty or begins with `|`
 pub record IsObjectLine (line address bytes : List ℕ) : Type 0 where
   pub lead : List ℕ
@@ -30,11 +30,11 @@ pub record BeginsObjectLine (line rest : List ℕ) : Type 0 where
 abbrev pub digits_in_line : List ℕ → Option Digits
 digits_in_line line = option_and_then digits_of (after_prefix (behind is_blank line))
 
--- the definition reads just the lines of the form, and their digits
+-- the definition reads exactly the well-formed lines, and their digits
 abbrev pub ReadsTheForm : Type 0
 ReadsTheForm =
     (line address bytes : List ℕ) → (digits_in_line line ≡ Some (record { address = address; bytes = bytes })) ↔ IsObjectLine line address bytes
 
--- it skips just the lines that don't begin with blanks and `0x`
+-- it skips exactly the lines that don't begin with blanks and `0x`
 abbrev pub SkipsTheRest : Type 0
 SkipsTheRest = (line rest : List ℕ) → (after_prefix (behind is_blank line) ≡ Some rest) ↔ BeginsObjectLine line rest

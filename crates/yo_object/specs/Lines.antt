@@ -1,4 +1,4 @@
--- What the code keeps of a line, against the definitions of object text.
+-- How the code's digits of a line relate to the definitions of object text.
 use Rattle.yo_object.specs.ObjectText.{Digits}
 use Rattle.yo_object.specs.declared.line.LineDigits.{LineDigits}
 

@@ -1,4 +1,4 @@
--- The object text of a listing: each line of the source with its address and its bytes in front.
+-- The object text of a listing: each line of the source after its address and its bytes.
 use Rattle.std.specs.Prelude.{ℕ, ◌-◌, List, ◌++◌, codes, length, take, drop, replicate, Option, Some, None}
 use Rattle.std.specs.List.{flat_map}
 use Rattle.y86_base.specs.Numeral.{numeral}
@@ -9,11 +9,11 @@ use Rattle.yas_asm.specs.Listing.{Listed}
 abbrev pub hex_bytes : List ℕ → List ℕ
 hex_bytes bytes = flat_map (numeral 16 2) bytes
 
--- a text with blanks behind it up to a width
+-- a text with blanks after it up to a width
 abbrev pub padded : ℕ → List ℕ → List ℕ
 padded width text = text ++ replicate (width - length text) 32
 
--- what stands in front of a line: its address and its bytes, or as many blanks
+-- what precedes a line: its address and its bytes, or blanks of the same width
 unfoldable pub front : Option ℕ → List ℕ → List ℕ
 front None bytes = replicate 27 32
 front (Some address) bytes = codes "0x" ++ numeral 16 3 address ++ codes ": " ++ padded 20 (hex_bytes bytes)

@@ -1,4 +1,4 @@
--- What is printed of an accepted source is read back as the image of its listing.
+-- The printed object text of an accepted source, read back, gives the image of its listing.
 use Rattle.std.specs.Prelude.{◌≡◌, ◌⊎◌, ℕ, ◌+◌, ◌^◌, ◌<◌, ◌≤◌, All, IfSome, List, [], ◌∷◌, ◌++◌, slice_index, length, None, Some, Ok}
 use Rattle.y86_base.specs.declared.parts.Variant.{Variant}
 use Rattle.y86_base.specs.Image.{IsSize}
@@ -8,7 +8,7 @@ use Rattle.yas_asm.specs.Laws.{image}
 use Rattle.yo_object.specs.ObjectText.{object_of}
 use Rattle.yo_object.specs.Printed.{printed}
 
--- each byte of a line is inside a memory of a size
+-- each byte of a line is inside a memory of the size
 abbrev pub IsInside : ℕ → Line → Type 0
 IsInside size line = IfSome line.addr (λ address. 0 < length line.bytes.items → address + length line.bytes.items ≤ size)
 
@@ -31,7 +31,7 @@ IsAddressed line = line.addr ≡ None → line.bytes.items ≡ []
 abbrev pub EmitsAtAddresses : Type 0
 EmitsAtAddresses = (variant : Variant) (source : List ℕ) (size : ℕ) (lines : List Line) → assembled variant source size ≡ Ok lines → All IsAddressed lines
 
--- each byte of a line of the listing stands at its address in the image: no other line puts a byte there
+-- each byte of a line of the listing is at its address in the image: no other line stores a byte there
 abbrev pub HasItsBytes : Type 0
 HasItsBytes =
     (variant : Variant) (source : List ℕ) (assembled_size size : ℕ) (before after : List Line) (line : Line)
@@ -43,7 +43,7 @@ HasItsBytes =
 abbrev pub HasNoByteAt : ℕ → Line → Type 0
 HasNoByteAt address line = IfSome line.addr (λ first. (address < first) ⊎ (first + length line.bytes.items ≤ address))
 
--- and 0 stands at each address at which no line has a byte
+-- and each address at which no line has a byte is 0
 abbrev pub IsZeroElsewhere : Type 0
 IsZeroElsewhere =
     (lines : List Line) (size address : ℕ) → All (IsInside size) lines → All (HasNoByteAt address) lines → slice_index (image size lines) address ≡ 0

@@ -1,4 +1,4 @@
-//! One line of object text.
+//! Reads one line of object text, and stores its bytes.
 ghost use Rattle.std.specs.Prelude.{◌≡◌, ◌<◌, ◌≤◌, ◌+◌, ◌∷◌, [], IfSome, MatchOption, length};
 ghost use Rattle.std.specs.Option.{option_copied, option_map};
 ghost use Rattle.y86_base.specs.Image.{with_bytes};
@@ -17,7 +17,7 @@ pub struct LineDigits<'a> {
     pub bytes: &'a [u8],
 }
 
-/// What stands behind `0x`, where the text begins with it.
+/// What follows `0x`, if the text begins with it.
 fn after_prefix(text: &[u8]) -> Option<&[u8]>
     ensures { option_copied result ≡ definition.after_prefix text.now }
 {
@@ -35,7 +35,7 @@ fn is_line_end(text: &[u8]) -> bool
     }
 }
 
-/// The digits of a line that is of the form, behind its `0x`.
+/// The digits of a well-formed line, from the text after its `0x`.
 #[tactic(auto, unfolding(crate::specs::ObjectText::digits_of))]
 fn digits_behind(text: &[u8]) -> Option<LineDigits<'_>>
     ensures { option_map digits_in result ≡ definition.digits_of text.now }
@@ -52,7 +52,7 @@ fn digits_behind(text: &[u8]) -> Option<LineDigits<'_>>
     }
 }
 
-/// The digits of a line, if it is of the form.
+/// The digits of a line, if it is well-formed.
 pub fn line_digits(line: &[u8]) -> Option<LineDigits<'_>>
     ensures { option_map digits_in result ≡ digits_in_line line.now }
 {
@@ -62,7 +62,7 @@ pub fn line_digits(line: &[u8]) -> Option<LineDigits<'_>>
     digits_behind(text)
 }
 
-/// The byte that the first two hex digits write, and the digits behind them.
+/// The byte that the first two hex digits write, and the digits after them.
 fn first_pair(digits: &[u8]) -> Option<(u8, &[u8])>
     ensures pair { MatchOption result (definition.bytes_of_pairs digits.now ≡ [])
         (λ x. definition.bytes_of_pairs digits.now ≡ x.0 ∷ definition.bytes_of_pairs x.1.now) }
@@ -73,7 +73,7 @@ fn first_pair(digits: &[u8]) -> Option<(u8, &[u8])>
     Some((16 * hex_value(*high) + hex_value(*low), rest))
 }
 
-/// Puts the bytes that pairs of digits write.
+/// Stores the bytes that pairs of digits write.
 fn put_bytes(image: &mut Image, address: u64, digits: &[u8])
     requires { address + length (definition.bytes_of_pairs digits.now) ≤ length image.old }
     ensures { image.new ≡ with_bytes image.old address (definition.bytes_of_pairs digits.now) }
@@ -90,7 +90,7 @@ fn put_bytes(image: &mut Image, address: u64, digits: &[u8])
     }
 }
 
-/// Puts the bytes of a line of the form, or tells the first of its faults.
+/// Stores the bytes of a well-formed line, or returns the first of its faults.
 #[tactic(auto, using(crate::proofs::Bytes::put_nothing, crate::proofs::Bytes::pairs_length, crate::proofs::Bytes::not_a_word), unfolding(crate::specs::ObjectText::put_digits))]
 fn put_digits(image: &mut Image, digits: &LineDigits<'_>) -> Result<(), YoWhy>
     ensures { LeavesMemory result image.new (definition.put_digits image.old (digits_in digits.now)) }
@@ -115,7 +115,7 @@ fn put_digits(image: &mut Image, digits: &LineDigits<'_>) -> Result<(), YoWhy>
     }
 }
 
-/// Puts the bytes of a line, or tells its fault.
+/// Stores the bytes of a line, or returns its fault.
 #[tactic(auto, unfolding(crate::specs::ObjectText::put_line))]
 pub fn put_line(image: &mut Image, line: &[u8]) -> Result<(), YoWhy>
     ensures { LeavesMemory result image.new (definition.put_line image.old line.now) }

@@ -1,4 +1,4 @@
-//! Loads object text: the call.
+//! The call that loads object text.
 ghost use Rattle.std.specs.Prelude.{◌≡◌, ◌⊎◌, IfErr, IfOk};
 ghost use Rattle.y86_base.specs.Image.{IsSize};
 ghost use Rattle.yo_object.specs.Loads.{out_of_memory};
@@ -9,10 +9,10 @@ use std::alloc::Global;
 use thiserror::Error;
 use y86_base::{Image, first_line};
 
-/// Why an object text has no image, in the order of their numbers.
+/// Why an object text has no image.
 #[derive(Clone, Copy, Debug, PartialEq, Eq, Error)]
 pub enum YoWhy {
-    /// The line begins with `0x` and isn't of the form.
+    /// The line begins with `0x` and is not well-formed.
     #[error("Syntax")]
     Syntax,
     /// An odd number of byte digits.
@@ -24,12 +24,12 @@ pub enum YoWhy {
     /// More than 16 address digits.
     #[error("AddressTooWide")]
     AddressTooWide,
-    /// Want of memory; it has no line.
+    /// Out of memory; the fault has no line.
     #[error("Memory")]
     Memory,
 }
 
-/// A fault of an object text and the line that it stands in, counted from 1; line 0 with `Memory`.
+/// A fault of an object text and its line, counted from 1; the line is 0 for `Memory`.
 #[derive(Clone, Copy, Debug, PartialEq, Eq, Error)]
 #[error("{line}: {why}")]
 pub struct YoFault {
@@ -37,7 +37,7 @@ pub struct YoFault {
     pub why: YoWhy,
 }
 
-/// The image of an object text: `size` bytes that are 0 where no line puts a byte. A later line overwrites
+/// The image of an object text: `size` bytes, which are 0 where no line stores a byte. A later line overwrites
 /// an earlier one.
 pub fn load(alloc: Global, bytes: &[u8], size: u64) -> Result<Image, YoFault>
     requires { IsSize size }

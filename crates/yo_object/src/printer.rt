@@ -7,10 +7,10 @@ use std::alloc::Global;
 use y86_base::{Memory, Numeral, put};
 use yas_asm::{Line, Listing};
 
-/// As many blanks as stand in front of a line that has no address.
+/// The blanks that precede a line without an address.
 const BLANKS: [u8; 27] = [b' '; 27];
 
-/// Puts blanks behind a text.
+/// Appends blanks to a text.
 fn put_blanks(text: &mut Vec<u8>, count: usize) -> Result<(), Memory>
     requires { count ≤ 27 }
     ensures { OnOk result (text.new.items ≡ text.old.items ++ replicate count 32) }
@@ -18,7 +18,7 @@ fn put_blanks(text: &mut Vec<u8>, count: usize) -> Result<(), Memory>
     put(text, &BLANKS[..count])
 }
 
-/// Puts bytes as hex digits behind a text.
+/// Appends bytes as hex digits to a text.
 fn put_hex_bytes(text: &mut Vec<u8>, bytes: &[u8]) -> Result<(), Memory>
     ensures { OnOk result (text.new.items ≡ text.old.items ++ definition.hex_bytes bytes.now) }
 {
@@ -46,7 +46,7 @@ fn text_of(source: &[u8], from: u64, to: u64) -> &[u8]
     }
 }
 
-/// Puts what stands in front of a line: its address and bytes, or blanks.
+/// Appends what precedes a line: its address and bytes, or blanks.
 #[tactic(auto, unfolding(crate::specs::Printed::front))]
 fn put_front(text: &mut Vec<u8>, address: Option<u64>, bytes: &[u8]) -> Result<(), Memory>
     ensures { OnOk result (text.new.items ≡ text.old.items ++ definition.front address bytes.now) }
@@ -63,7 +63,7 @@ fn put_front(text: &mut Vec<u8>, address: Option<u64>, bytes: &[u8]) -> Result<(
     put_blanks(text, 20usize.saturating_sub(text.len() - start))
 }
 
-/// Puts a line of a listing behind a text.
+/// Appends a line of a listing to a text.
 #[tactic(auto, unfolding(crate::specs::Printed::printed_line))]
 fn put_line(text: &mut Vec<u8>, source: &[u8], line: &Line) -> Result<(), Memory>
     ensures { OnOk result (text.new.items ≡ text.old.items ++ definition.printed_line source.now line.now) }

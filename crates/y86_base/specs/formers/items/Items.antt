@@ -1,4 +1,4 @@
--- `Items` as a type that may hold the type that holds it.
+-- Registers `Items` as a type former, so that a type may hold a list of itself in `Items`.
 use mathlib.Core.Path.{◌≡◌, refl, sym}
 use mathlib.Core.List.{List, []}
 use mathlib.Core.Former.{Former, this, list, via, children}
