@@ -230,6 +230,15 @@ def test_by_instructions(at):
     same(at.do("[workbench.tab, document.activeElement.id]"), ["run", "result"])
 
 
+def test_steps_by_keys(at):
+    """The list of instructions scrolls by the keys that scroll a page."""
+    at.click("#tab-steps")
+    at.do("el('panel-steps').focus()")
+    at.key("PageDown")
+    at.until("el('panel-steps').scrollTop > 0")
+    same(at.do("document.activeElement.id"), "panel-steps")
+
+
 def test_steps_while_writing(at):
     """On a phone the page doesn't go from the text that is written to the instruction that differs."""
     at.size(*WIDTHS[-1])
@@ -491,6 +500,16 @@ def test_late_verdict(held):
     held.settle()
     said(held, "verdict", "no: O10")
     said(held, "outcome", "comes out right", "Another may not.")
+    # (and not from the verdict of the text before)
+    held.do("Object.assign(holds, { round: 2, at: 0, kept: [] }), 0")
+    held.do(f"(() => {{ const it = one('#hcl textarea'); it.value = {json.dumps(STD)}; it.dispatchEvent(new Event('input', {{ bubbles: true }})); }})()")
+    held.until("holds.kept.length === 2")
+    held.do("holds.at = -1, holds.kept.find(([it]) => !/^(yes|no)/.test(it.out))[1](), 0")
+    held.until("!el('outcome').classList.contains('stale')")
+    assert "Another may not." not in held.text("outcome")
+    held.do("holds.kept.find(([it]) => /^(yes|no)/.test(it.out))[1](), 0")
+    held.settle()
+    said(held, "verdict", "Right for every program")
 
 
 def test_stopped(held):

@@ -51,6 +51,7 @@ function show() {
   // (on a phone it is the page that scrolls, and whoever writes would lose the text)
   if (document.activeElement.tagName !== "TEXTAREA")
     panel.querySelector(".wrong")?.scrollIntoView({ block: "center" });
+  panel.scrollLeft = 0;
 }
 
 export function wireSteps() {
