@@ -8,7 +8,7 @@ use findings::Finding;
 use hcl_types::NameId;
 use std::alloc::{AllocError, Global};
 
-/// What begins the lines that follow a finding.
+/// The indentation of the lines that follow a finding.
 const INDENT: &str = "           ";
 
 /// The same for the text of a case.

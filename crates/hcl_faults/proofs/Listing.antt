@@ -9,7 +9,7 @@ use Rattle.hcl_faults.specs.declared.tokens.TokenAt.{TokenAt}
 use Rattle.hcl_faults.specs.Kinds.{kind_of}
 use Rattle.hcl_faults.specs.Places.{IsNext, behind_token, token_at, token_list}
 
--- the token in front of a rest, behind its gap
+-- the first token of a rest, after its gap
 pub record IsToken (rest here : List ℕ) (t : Token) (behind : List ℕ) : Type 0 where
   pub items_are : items rest ≡ (t, here) ∷ items behind
   pub after : behind_token here ≡ behind
