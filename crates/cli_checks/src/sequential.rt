@@ -19,7 +19,7 @@ use std::alloc::Global;
 use verdict_text::{plus_refusal, seq_refusal};
 use y86_base::{Items, Memory, Variant};
 
-/// A No: the first obligation that is false of some valuation, the least such valuation, and the design's atoms.
+/// A No: the first obligation that is false at some valuation, the least such valuation, and the design's atoms.
 #[derive(Debug, Drop)]
 pub struct SeqRejection {
     pub rule: u32,
@@ -27,7 +27,7 @@ pub struct SeqRejection {
     pub atoms: Items<Atom>,
 }
 
-/// The verdict on a design for SEQ, as `decided` gives it.
+/// The verdict on a design for SEQ; see `decided`.
 fn decide_seq(
     alloc: Global,
     variant: Variant,
@@ -54,7 +54,7 @@ fn decide_seq(
     }
 }
 
-/// The verdict on a design for SEQ+, as `decided` gives it.
+/// The verdict on a design for SEQ+; see `decided`.
 fn decide_plus(
     alloc: Global,
     variant: Variant,
@@ -81,7 +81,7 @@ fn decide_plus(
     }
 }
 
-/// The verdict on a design: `None` where it is accepted.
+/// The verdict on a design: `None` if it is accepted.
 pub fn decided(
     alloc: Global,
     which: Datapath,

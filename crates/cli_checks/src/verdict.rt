@@ -68,7 +68,7 @@ pub enum PipeVerdictText {
     No(Vec<u8>),
 }
 
-/// The text of a No of PIPE, with the design's atoms.
+/// The text of a No for PIPE, with the design's atoms.
 fn pipe_no_text<'a>(
     alloc: Global,
     ordered: &OrderedDesign,
@@ -116,7 +116,7 @@ pub fn pipe_decision<'a>(
     }
 }
 
-/// Decides a design for PIPE, and gives the text of the verdict.
+/// Decides a design for PIPE, and returns the text of the verdict.
 #[tactic(auto, using(crate::proofs::Checks::tells_yes))]
 pub fn pipe_verdict<'a>(
     alloc: Global,

@@ -22,7 +22,7 @@ unfoldable pub aig_plan : List ℕ → Variant → Plan
 aig_plan name v =
     reads name hcl_limit (λ text. value_in (IsDesign pipe_rows text) (RefusesDesign name pipe_rows text) (λ terms. answer_in (AigAnswers name v terms)))
 
--- the most bytes that an AIGER text has
+-- the most bytes of an AIGER text
 abbrev pub aag_limit : ℕ
 aag_limit = 33554432
 

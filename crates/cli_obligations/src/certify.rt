@@ -14,7 +14,7 @@ use std::alloc::Global;
 use wb_io::{Files, Sink};
 use y86_base::Variant;
 
-/// Decides a design for PIPE, and gives a certificate of a Yes, or the text of a No.
+/// Decides a design for PIPE, and returns a certificate of a Yes, or the text of a No.
 #[tactic(auto, using(crate::proofs::Certified::meets, crate::proofs::Certified::certified))]
 fn certificate<'a>(
     alloc: Global,

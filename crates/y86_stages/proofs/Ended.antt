@@ -19,7 +19,7 @@ module _ (said : Option Scanned) (files_before files_after : FilesState) (out_be
   unfolding CallEndsAs
   some_ends r result ends = ends
 
-  -- the words have no form
+  -- the words aren't valid
   pub called_usage : None ≡ said → files_after ≡ files_before → out_after ≡ out_before → status ≡ 2 → WroteError err_before err_after (stop_line Usage) →
       ShowContract said files_before files_after out_before out_after err_before err_after status
   called_usage e files out two told =

@@ -99,8 +99,8 @@ pub data Command : Type 0 where
   ssim : List ℕ → List ℕ → ℕ → ℕ → Variant → Command
   -- the same on SEQ+, which computes the PC as a cycle begins
   ssimp : List ℕ → List ℕ → ℕ → ℕ → Variant → Command
-  -- run an object file on PIPE under an HCL file: as for ssim, whether a trace is asked for, and whether the HCL file is
-  -- checked first
+  -- run an object file on PIPE under an HCL file: as for ssim, whether a trace is asked for, and whether the HCL file
+  -- is checked first
   psim : List ℕ → List ℕ → ℕ → ℕ → Bool → Bool → Variant → Command
   -- decide whether SEQ under an HCL file does what its instructions mean: the name of the file, the instruction set
   check_seq : List ℕ → Variant → Command

@@ -69,8 +69,8 @@ pub enum Cmd<'a> {
         hcl: &'a str,
         variant: Variant,
     },
-    /// Decides whether PIPE under an HCL file does what its instructions mean, for every program that doesn't store over
-    /// one of the next three instructions.
+    /// Decides whether PIPE under an HCL file does what its instructions mean, for every program that doesn't store
+    /// over one of the next three instructions.
     CheckPipe {
         hcl: &'a str,
         variant: Variant,
