@@ -130,7 +130,7 @@ static DATA_LINES: [Listed; 7] = [
     },
 ];
 
-/// The second instruction set has one mnemonic more, and else the same bytes.
+/// The second instruction set has another mnemonic, and otherwise the same bytes.
 static FULL: &[u8] = b"iaddq $5,%rax\naddq %rdx,%rax";
 
 static FULL_LINES: [Listed; 2] = [

@@ -14,7 +14,7 @@ use test_designs::Example;
 const F_PC: &[u8] =
     b"word f_pc = [ M_icode == IJXX && !M_Cnd : M_valA; 0 : 3; M_icode in { IRET, 9 } || 0 : -8; 1 : F_predPC; 1 : 5; ];";
 
-/// A node that asks for the code in a row: one code leads to one target, and each other to another.
+/// A node that asks for the code in a row: one code leads to one target, and all others to another.
 fn code(row: NameId, code: usize, target: u32, other: u32) -> Node
     requires { code < 17 }
 {

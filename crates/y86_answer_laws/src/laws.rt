@@ -14,7 +14,7 @@ ghost use Rattle.y86_answer_laws.specs.OneAnswer.{HasOneAnswer, HasOneRefusal, K
 
 /// Whatever the files of a command contain, its plan allows at most one answer. `aig` and `check pipe` with `--cert`
 /// may write any of many right texts: all their answers but the text of a yes are unique. (`recheck` is excepted: two
-/// calls of `--cert` may make two nets of one file, and a certificate of one net is none of the other.)
+/// of its calls may make two nets of one file, and a certificate for one net is none for the other.)
 pub fn law_of_one_answer()
     ensures yas { (source : List ℕ) (size : ℕ) (v : Variant) → HasOneAnswer (yas_plan source size v) }
     ensures yis { (object : List ℕ) (size limit : ℕ) (v : Variant) → HasOneAnswer (yis_plan object size limit v) }
@@ -45,9 +45,9 @@ pub fn law_of_calls()
         SameAnswers (plan_in form) contents out_before out_after err_before err_after out_before2 out_after2 err_before2 err_after2 status other }
 {}
 
-/// `recheck` accepts what `check pipe` with `--cert` wrote for a file over the same file, at the same settings, or
-/// refuses it only because of the gates of the net, unless it ends with 3, 4 or 6: the form, each number and each claim
-/// are right.
+/// What `check pipe` with `--cert` wrote for a file, `recheck` accepts for the same file, at the same settings; or it
+/// refuses only because of the gates of the net, or ends with 3, 4 or 6. So the form, each number and each claim are
+/// right.
 pub fn law_of_own_certificates()
     ensures { (words others : List (List ℕ)) (name cert : List ℕ) (v : Variant) (text bytes : List ℕ)
         (files_before files_after later_before later_after : FilesState)
