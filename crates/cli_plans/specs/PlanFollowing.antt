@@ -50,7 +50,7 @@ abbrev pub IsStageResultIn : {A B : Type 0} → (A → Type 0) → (Answer → T
 IsStageResultIn P E view (Ok x) = P (view x)
 IsStageResultIn P E view (Err stop) = RefusesWith E stop
 
--- a stage gives what is defined, or the refusal that is defined, or out of memory
+-- a stage yields what its definition does: the value, or the refusal; or memory is out
 abbrev pub IsStageResult : {A B : Type 0} → (B → A) → Result A Answer → Result B code.StopReason → Type 0
 IsStageResult view defined (Ok x) = defined ≡ Ok (view x)
 IsStageResult view defined (Err stop) = RefusesWith (λ a. defined ≡ Err a) stop

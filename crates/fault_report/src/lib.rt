@@ -1,6 +1,6 @@
 //! Reports the faults of HCL, assembly and object text: text in, sentences and facts out. The sentences are data, in
-//! the tables of `hcl_rules` and `asm_rules`. `binding_faults` and `object` have the sentences on faults that need no
-//! more than their reason.
+//! the tables of `hcl_rules` and `asm_rules`. `binding_faults` and `object` have those on faults with one sentence for
+//! each reason.
 #![tactic(auto)]
 
 mod asm_rules;

@@ -32,7 +32,7 @@ fn put_test(
     }
 }
 
-/// Whether all of some terms hold, or any of them.
+/// Decides whether all terms of a list hold, or any of them.
 #[cycle(testing)]
 fn put_terms(
     alloc: Global,
@@ -93,7 +93,7 @@ fn put_by_rows(
     }
 }
 
-/// Whether a number or a name holds.
+/// Decides whether a number or a name holds.
 fn put_operand(
     t: &Term,
     constants: &[u64],
@@ -109,7 +109,7 @@ fn put_operand(
     }
 }
 
-/// Whether `x op y` holds.
+/// Decides whether `x op y` holds.
 fn put_comparison(
     op: CmpOp,
     x: &Term,
@@ -127,7 +127,7 @@ fn put_comparison(
     }
 }
 
-/// Whether `x in { all }` holds: `x` is compared with the members from the last on.
+/// Decides whether `x in { all }` holds: `x` is compared with the members, from the last on.
 fn put_membership(
     x: &Term,
     all: &[Term],
@@ -155,7 +155,7 @@ fn put_membership(
     Ok(Some(place))
 }
 
-/// The value of a term that is a truth: 1 if it holds, otherwise 0.
+/// Leads to the value of a term that is a truth: 1 if it holds, otherwise 0.
 fn put_truth(alloc: Global, t: &Term, constants: &[u64], d: &mut Decisions) -> Result<u32, Memory>
     requires { IsTruth t.now }
     ensures { IfOk result (IsValue constants.now t.now d.old d.new) }
@@ -195,7 +195,7 @@ pub fn put_value(
     }
 }
 
-/// The value of the first branch whose guard holds, or the value at `none`, which is 0.
+/// Leads to the value of the first branch whose guard holds, or to the value at `none`, which is 0.
 #[cycle(valuing)]
 fn put_case(
     alloc: Global,

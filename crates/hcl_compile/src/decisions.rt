@@ -18,7 +18,7 @@ pub struct Decisions {
     pub terms: Vec<Term>,
 }
 
-/// Appends a node, and returns its place. With more nodes than there are targets below `ROWS` memory is out.
+/// Appends a node, and returns its place. If no place below `ROWS` is left, it reports that memory is out.
 fn put(node: Node, d: &mut Decisions) -> Result<u32, Memory>
     ensures { IfOk result (IsAdded node d.old d.new) }
 {
@@ -66,7 +66,7 @@ fn past(target: u32, name: NameId, answer: u64, d: &Decisions) -> u32
     }
 }
 
-/// Whether the code in a row is this one.
+/// Decides whether the code in a row is this one.
 pub fn put_code(name: NameId, code: u64, to: Targets, d: &mut Decisions) -> Result<u32, Memory>
     requires { code < 16 }
     ensures { (constants : List ℕ) → IfOk result (Decides constants (name ∷ []) (λ env. nat_eq (env name) code) d.old d.new to) }
@@ -83,7 +83,7 @@ pub fn put_code(name: NameId, code: u64, to: Targets, d: &mut Decisions) -> Resu
     put(node, d)
 }
 
-/// Whether two rows have one value.
+/// Decides whether two rows have the same value.
 pub fn put_same(left: NameId, right: NameId, to: Targets, d: &mut Decisions) -> Result<u32, Memory>
     ensures { (constants : List ℕ) → IfOk result (Decides constants (left ∷ right ∷ []) (λ env. nat_eq (env left) (env right)) d.old d.new to) }
 {
@@ -110,7 +110,7 @@ pub fn put_term(alloc: Global, t: &Term, to: Targets, d: &mut Decisions) -> Resu
     put_question(Ask::Holds(k), to, d)
 }
 
-/// The value of a term, by a node that evaluates the whole term.
+/// Leads to the value of a term, by a node that evaluates the whole term.
 pub fn put_term_value(alloc: Global, t: &Term, d: &mut Decisions) -> Result<u32, Memory>
     ensures { (constants : List ℕ) → IfOk result (IsValue constants t.now d.old d.new) }
 {

@@ -28,7 +28,7 @@ impl Targets {
     }
 }
 
-/// Which of some terms have to hold.
+/// Which terms of a list have to hold.
 #[derive(Clone, Copy, Debug, PartialEq, Eq)]
 pub enum Quantifier {
     All,

@@ -173,7 +173,7 @@ with_more : (item : ℕ) (f : Option BindFault) (others : List ItemFault) → wi
 with_more item None others = refl
 with_more item (Some e) others = refl
 
--- what the loop keeps: the items so far with their faults, and the items left
+-- the loop invariant: the items so far with their faults, and the items left
 pub record Gathered (rows : List Row) (items : List Item) (list : List ItemFault) (done left : List Item) : Type 0 where
   pub whole : done ++ left ≡ items
   pub same : list ++ item_faults rows done left ≡ item_faults rows [] items

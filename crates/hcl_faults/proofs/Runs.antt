@@ -20,7 +20,7 @@ use Rattle.hcl_faults.proofs.Listing.{is_token}
 kind_list : List (Token × List ℕ) → List Token
 kind_list some = map (λ item. item.0) some
 
--- what the loop keeps: the reader has taken the tokens so far
+-- the loop invariant: the reader has taken the tokens so far
 pub record Reached (text : List ℕ) (count : ℕ) (state : ReaderState) (rest : List ℕ) : Type 0 where
   pub taken : List Token
   pub whole : tokens text ≡ taken ++ tokens rest

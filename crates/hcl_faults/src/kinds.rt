@@ -6,7 +6,7 @@ use hcl_read::Token;
 use hcl_tree::{CmpOp, Kind, Text};
 use std::alloc::Global;
 
-/// A kind of token: what the grammar tells apart.
+/// A kind of token that the grammar distinguishes.
 #[derive(Clone, Copy, Debug, PartialEq, Eq)]
 pub enum TokenKind {
     /// `quote`

@@ -309,7 +309,7 @@ static MOVES: [Done; 22] = [
         next: 2,
         ..DONE
     },
-    // the flags stay
+    // the flags don't change
     Done {
         code: &[0xb0, 0x2f],
         registers: (0, 0, 56),
