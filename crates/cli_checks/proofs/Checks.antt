@@ -95,7 +95,7 @@ pub said_pipe_yes : (name : List ℕ) (v : Variant) (terms : List Term) (text : 
 said_pipe_yes name v terms text old new result accepts s =
     says_more (λ a. a ≡ done 0 text) (PipeChecks name v terms) old new result (λ a is. inl (subst (AnswersYesPipe v terms) (sym is) accepts)) s
 
--- a No that ends a check
+-- a `no` that ends a check
 pub said_denied : (name : List ℕ) (v : Variant) (terms : List Term) (text : List ℕ) (old new : SinkState) (result : Result ℕ code.StopReason) → AnswersNoPipe v terms (done 1 text) →
     WritesAnswer (λ a. a ≡ done 1 text) old new result → WritesAnswer (RefusesPipe name v terms) old new result
 said_denied name v terms text old new result denies s =

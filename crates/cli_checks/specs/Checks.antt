@@ -35,13 +35,13 @@ RefusesControl name rows terms a = RefusesMixed name rows terms a ⊎ RefusesAto
 
 -- ---- for a sequential datapath
 
--- Yes: the design satisfies every obligation, so its machine is that of the run of instructions
+-- `yes`: the design satisfies every obligation, so its machine is that of the run of instructions
 pub record AnswersYesSeq (which : Datapath) (v : Variant) (terms : List Term) (a : Answer) : Type 0 where
   pub accepted : Accepts which v terms
   pub refines : RefinesRun which v terms
   pub told : a ≡ done 0 (codes "yes\n")
 
--- No: the first obligation that is false at some valuation, and the least such valuation
+-- `no`: the first obligation that is false at some valuation, and the least such valuation
 pub record AnswersNoSeq (which : Datapath) (v : Variant) (terms : List Term) (a : Answer) : Type 0 where
   pub rule : ℕ
   pub valuation : List Bool
@@ -54,21 +54,21 @@ SeqChecks which name v terms a = AnswersYesSeq which v terms a ⊎ (AnswersNoSeq
 
 -- ---- for the pipeline
 
--- Yes: the design satisfies every obligation at its settings, so its pipeline refines the run of instructions
+-- `yes`: the design satisfies every obligation at its settings, so its pipeline refines the run of instructions
 pub record AnswersYesPipe (v : Variant) (terms : List Term) (a : Answer) : Type 0 where
   pub settings : Settings
   pub accepted : pipe.AcceptsPipe v terms settings
   pub refines : pipe.RefinesPipe v terms
   pub told : a ≡ done 0 (pipe_yes settings)
 
--- No: the first obligation that is false at some valuation, and the least such valuation, at the design's settings
+-- `no`: the first obligation that is false at some valuation, and the least such valuation, at the design's settings
 pub record AnswersNoPipe (v : Variant) (terms : List Term) (a : Answer) : Type 0 where
   pub rule : ℕ
   pub valuation : List Bool
   pub rejected : pipe.RejectsPipe v terms rule valuation
   pub told : a ≡ done 1 (pipe_no (row_names pipe_rows) rule valuation rejected.settings.atoms)
 
--- the answers that end the check of a design for PIPE without a Yes
+-- the answers to the check of a design for PIPE that isn't accepted
 abbrev pub RefusesPipe : List ℕ → Variant → List Term → Answer → Type 0
 RefusesPipe name v terms a = AnswersNoPipe v terms a ⊎ RefusesControl name pipe_rows terms a
 
@@ -76,12 +76,12 @@ RefusesPipe name v terms a = AnswersNoPipe v terms a ⊎ RefusesControl name pip
 abbrev pub PipeChecks : List ℕ → Variant → List Term → Answer → Type 0
 PipeChecks name v terms a = AnswersYesPipe v terms a ⊎ RefusesPipe name v terms a
 
--- the settings of a Yes for a PIPE design, or the text of a No
+-- the settings of an accepted design for PIPE, or the text of a `no`
 abbrev pub IsPipeDecision : Variant → List Term → PipeDecision → Type 0
 IsPipeDecision v terms (decided.Yes settings) = pipe.AcceptsPipe v terms settings × pipe.RefinesPipe v terms
 IsPipeDecision v terms (decided.No text) = AnswersNoPipe v terms (done 1 text.items)
 
--- the text is that of a Yes or a No for a PIPE design
+-- the text is that of a `yes` or a `no` for a PIPE design
 abbrev pub IsPipeVerdictText : Variant → List Term → PipeVerdictText → Type 0
 IsPipeVerdictText v terms (pipe_text.Yes text) = AnswersYesPipe v terms (done 0 text.items)
 IsPipeVerdictText v terms (pipe_text.No text) = AnswersNoPipe v terms (done 1 text.items)

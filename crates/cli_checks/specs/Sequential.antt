@@ -1,4 +1,5 @@
--- What a check asks about designs for the two sequential datapaths, what follows from its Yes, and the text of a No.
+-- What a check asks about designs for the two sequential datapaths, what follows from its `yes`, and the text of a
+-- `no`.
 use Rattle.std.specs.Prelude.{ℕ, Bool, List, Option, Some, None}
 use Rattle.control_check.specs.SeqVerdicts.{AcceptsSeq, seq_questions}
 use Rattle.ctl_atoms.specs.Atoms.{AreAtoms}
@@ -43,7 +44,7 @@ abbrev pub IsDecided : Datapath → Variant → List Term → Option SeqRejectio
 IsDecided which v terms None = Accepts which v terms × RefinesRun which v terms
 IsDecided which v terms (Some d) = Rejects which v terms d.rule d.valuation.bits × AreAtoms (rows_of which) terms d.atoms
 
--- the text of a No for SEQ+, by the fields of its valuation
+-- the text of a `no` for SEQ+, by the fields of its valuation
 abbrev plus_text : List (List ℕ) → ℕ → Fields → List Bool → List Atom → List ℕ
 plus_text names rule c w atoms = plus_no names rule c.icode c.cnd c.line w atoms
 

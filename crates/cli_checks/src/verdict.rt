@@ -54,7 +54,7 @@ pub fn control_stop<'a>(
     }
 }
 
-/// A verdict on PIPE: the settings of a Yes, or the text of a No.
+/// A verdict on PIPE: the settings of an accepted design, or the text of a `no`.
 #[derive(Debug, Drop)]
 pub enum PipeDecision {
     Yes(Settings),
@@ -68,7 +68,7 @@ pub enum PipeVerdictText {
     No(Vec<u8>),
 }
 
-/// The text of a No for PIPE, with the design's atoms.
+/// The text of a `no` for PIPE, with the design's atoms.
 fn pipe_no_text<'a>(
     alloc: Global,
     ordered: &OrderedDesign,

@@ -40,7 +40,7 @@ cert_fault_line name fault = fault_line name fault.line (cert_reason fault.why)
 
 -- ---- `check pipe` with `--cert`
 
--- Yes: the design satisfies every obligation at its settings, and the text is a certificate of it
+-- `yes`: the design satisfies every obligation at its settings, and the text is a certificate of it
 pub record CertifiesPipe (v : Variant) (terms : List Term) (a : Answer) : Type 0 where
   pub settings : Settings
   pub accepted : AcceptsPipe v terms settings
@@ -49,11 +49,11 @@ pub record CertifiesPipe (v : Variant) (terms : List Term) (a : Answer) : Type 0
   pub certificate : IsCertificate v terms settings text
   pub told : a ≡ done 0 text
 
--- the answers: a certificate, or an answer of the check without a Yes
+-- the answers: a certificate, or what the check answers for a design that isn't accepted
 abbrev pub PipeCertifies : List ℕ → Variant → List Term → Answer → Type 0
 PipeCertifies name v terms a = CertifiesPipe v terms a ⊎ RefusesPipe name v terms a
 
--- a text is a certificate of a design, or the text of its No
+-- a text is a certificate of a design, or the text of its `no`
 abbrev pub IsCertificateOrNo : Variant → List Term → PipeVerdictText → Type 0
 IsCertificateOrNo v terms (pipe_text.Yes text) = CertifiesPipe v terms (done 0 text.items)
 IsCertificateOrNo v terms (pipe_text.No text) = AnswersNoPipe v terms (done 1 text.items)

@@ -123,7 +123,7 @@ fn run_object<'a, F: Files, O: Sink>(
 }
 
 /// Reads an object file and runs it on PIPE under a design. If a check is asked for, the design is checked first; after
-/// a No nothing is read or run.
+/// a `no` nothing is read or run.
 fn run_checked<'a, F: Files, O: Sink>(
     alloc: Global,
     request: PipeRequest<'a>,

@@ -368,7 +368,8 @@ fn find(stage: &'static str, signals: &'static [Signal], name: &str) -> Option<S
 /// The number of groups of signals.
 pub const GROUP_COUNT: usize = 12;
 
-/// A group of signals: its stage, and the signals. The first six groups are PIPE's, the others SEQ's and SEQ+'s.
+/// A group of signals: its stage, and the signals. The first six groups are PIPE's; the others have the signals that
+/// only SEQ or SEQ+ has.
 pub fn signal_group(number: usize) -> (&'static str, &'static [Signal]) {
     match number {
         0 => ("fetch", &PIPE_FETCH),

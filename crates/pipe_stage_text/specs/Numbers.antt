@@ -8,11 +8,11 @@ use Rattle.y86_base.specs.Stat.{stat_name, stat_of}
 unfoldable pub address : ℕ → List ℕ
 address n = codes "0x" ++ numeral 16 3 n
 
--- a register by its number; 15 is none, and a number that no register has is printed
+-- a register by its number: 15 is `-`, and a number that no register has is decimal
 unfoldable pub register : ℕ → List ℕ
 register n = if nat_lt n 15 then register_name n else (if n == 15 then codes "-" else numeral 10 1 n)
 
--- a function of the ALU by its number (figure 4.3); a number that no function has is printed
+-- a function of the ALU by its number (figure 4.3): a number that no function has is decimal
 unfoldable pub functions : List (List ℕ)
 functions = codes "add" ∷ codes "sub" ∷ codes "and" ∷ codes "xor" ∷ []
 

@@ -6,7 +6,7 @@ use pipe_diagnosis::{Refusal, Refutation};
 use std::alloc::{AllocError, Global};
 use y86_base::Variant;
 
-/// Whether an obligation is on motion.
+/// Whether an obligation depends on motion: O10, O11 and O23 to O27.
 pub fn is_motion(rule: u32) -> bool {
     rule == 10 || rule == 11 || rule >= 23
 }

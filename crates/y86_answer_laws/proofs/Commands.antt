@@ -134,7 +134,7 @@ sample_plan_one name seed count v =
 pub no_command_one : HasOneAnswer (plan_in None)
 no_command_one = answers_one _
 
--- ---- one answer, except for the text of a yes
+-- ---- one answer, except for the text of a `yes`
 
 yes_stage : (name text : List ℕ) (next : List Term → Plan) → ((terms : List Term) (ids : List ℕ) → IsOrderOf pipe_rows terms ids → HasOneRefusal (next terms)) →
     HasOneRefusal (value_in (IsDesign pipe_rows text) (RefusesDesign name pipe_rows text) next)

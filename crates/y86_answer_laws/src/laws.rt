@@ -13,7 +13,7 @@ ghost use Rattle.y86_words.specs.Forms.{Command, certify_pipe, form_of, recheck}
 ghost use Rattle.y86_answer_laws.specs.OneAnswer.{HasOneAnswer, HasOneRefusal, KeptCertificate, SameAnswers};
 
 /// Whatever the files of a command contain, its plan allows at most one answer. `aig` and `check pipe` with `--cert`
-/// may write any of many right texts: all their answers but the text of a yes are unique. (`recheck` is excepted: two
+/// may write any of many right texts: all their answers but the text of a `yes` are unique. (`recheck` is excepted: two
 /// of its calls may make two nets of one file, and a certificate for one net is none for the other.)
 pub fn law_of_one_answer()
     ensures yas { (source : List ℕ) (size : ℕ) (v : Variant) → HasOneAnswer (yas_plan source size v) }

@@ -49,7 +49,7 @@ pub record HasAcceptedSeq (which : Datapath) (v : Variant) (told : Option (Optio
   pub accepted : Accepts which v terms
   pub refines : RefinesRun which v terms
 
--- An accepted file, whose settings were printed: the text on standard output is the line of a Yes.
+-- An accepted file, whose settings were printed: the text on standard output is the line of a `yes`.
 pub record ToldAccepted (v : Variant) (told : Option (Option (List ℕ))) (before after : SinkState) : Type 0 where
   pub file : HasAccepted v told
   pub line : Appended before.taken after.taken (pipe_yes file.settings)
@@ -85,9 +85,9 @@ pub record PrintsTheRun (v : Variant) (image : List ℕ) (trace : Bool) (p : Pip
   pub whole_report : ended_by_status p.end ≡ true →
       report image (end_of p) (length p.records) ≡ report image (run v image (length p.records)) (length p.records)
 
--- A file was accepted, and an image ran on it: after the Yes come the trace, the counts and the report. They agree with
--- the run of instructions if none of the first instructions, one for each cycle, fetches a byte that one of the three
--- before it stored.
+-- A file was accepted, and an image ran on it: after the `yes` come the trace, the counts and the report. They agree
+-- with the run of instructions if none of the first instructions, one for each cycle, fetches a byte that one of the
+-- three before it stored.
 pub record CheckedRunIsRight (v : Variant) (size limit : ℕ) (trace : Bool) (hcl object : Option (Option (List ℕ))) (before after : SinkState) (status : ℕ) : Type 0 where
   pub file : HasAccepted v hcl
   pub bytes : List ℕ
@@ -101,7 +101,7 @@ pub record CheckedRunIsRight (v : Variant) (size limit : ℕ) (trace : Bool) (hc
   pub told : Appended before.taken after.taken (pipe_yes file.settings ++ run_text trace image cycles end)
   pub agrees : NearPure v image cycles → PrintsTheRun v image trace end
 
--- A file was refused, and nothing ran: the No was printed.
+-- A file was refused, and nothing ran: the `no` was printed.
 pub record AnsweredNo (v : Variant) (hcl : Option (Option (List ℕ))) (before after : SinkState) (status : ℕ) : Type 0 where
   pub text : List ℕ
   pub has : HasBytes hcl text

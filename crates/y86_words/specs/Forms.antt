@@ -108,9 +108,9 @@ pub data Command : Type 0 where
   check_plus : List ℕ → Variant → Command
   -- the same for PIPE, and for the programs that don't store over one of the next three instructions
   check_pipe : List ℕ → Variant → Command
-  -- the same, with a certificate of a Yes instead of its line
+  -- the same, with a certificate instead of the line of a `yes`
   certify_pipe : List ℕ → Variant → Command
-  -- check a certificate of a Yes: the names of the HCL file and of the certificate, the instruction set
+  -- check a certificate that a file is accepted: the names of the HCL file and of the certificate, the instruction set
   recheck : List ℕ → List ℕ → Variant → Command
   -- try drawn valuations against the obligations of PIPE: the name of the HCL file, the seed, the number of valuations,
   -- the instruction set

@@ -75,12 +75,12 @@ pub enum Cmd<'a> {
         hcl: &'a str,
         variant: Variant,
     },
-    /// Decides the same, and writes a certificate of a Yes.
+    /// Decides the same, and writes a certificate if the file is accepted.
     CertifyPipe {
         hcl: &'a str,
         variant: Variant,
     },
-    /// Checks a certificate of a Yes, without deciding again.
+    /// Checks a certificate that a file is accepted, without deciding again.
     Recheck {
         hcl: &'a str,
         cert: &'a str,

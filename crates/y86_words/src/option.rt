@@ -18,7 +18,7 @@ pub enum OptionName {
     Trace,
     /// `--checked`: the control logic is checked before the run.
     Checked,
-    /// `--cert`: a certificate is printed instead of a Yes.
+    /// `--cert`: a certificate is printed instead of a `yes`.
     Cert,
 }
 
