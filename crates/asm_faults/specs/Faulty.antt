@@ -1,4 +1,4 @@
--- The lines of a source that are faulty by themselves.
+-- The lines of a source that are faulty by themselves: the assembler reports only the first fault.
 use Rattle.std.specs.Prelude.{ℕ, ◌+◌, List, [], ◌∷◌, Result, Ok, Err}
 use Rattle.y86_base.specs.declared.parts.Variant.{Variant}
 use Rattle.yas_asm.specs.declared.fault.AsmWhy.{AsmWhy}

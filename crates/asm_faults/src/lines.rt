@@ -1,4 +1,4 @@
-//! The lines of a source that are faulty by themselves.
+//! Finds all lines of a source that are faulty by themselves: the assembler reports only the first fault.
 ghost use Rattle.std.specs.Prelude.{◌≡◌, ◌++◌, [], IfOk, OnOk};
 ghost use Rattle.yas_asm.specs.Grammar.{read_line};
 ghost use Rattle.y86_base.specs.Text.{lines};

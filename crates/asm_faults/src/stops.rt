@@ -1,4 +1,4 @@
-//! Where a line stops being well-formed.
+//! Finds where a line stops being well-formed, and what the grammar requires there.
 ghost use Rattle.std.specs.Prelude.{◌≡◌, MatchOption, None, Some};
 ghost use Rattle.yas_asm.specs.Tables as tables;
 ghost use Rattle.yas_asm.specs.Tokens as tokens;

@@ -1,4 +1,4 @@
-//! Writes a report as lines of text, for terminals and editors.
+//! Writes a report as lines of text, in the form `FILE:LINE:COLUMN: SENTENCE`.
 ghost use Rattle.std.specs.Prelude.{◌≡◌, ◌++◌, IfOk, OnOk};
 ghost use Rattle.fault_output.specs.Lines as spec;
 

@@ -1,4 +1,4 @@
-//! The findings of an obligation as JSON, with stable names.
+//! Writes the findings of an obligation as JSON, with stable names.
 ghost use Rattle.std.specs.Prelude.{◌≡◌, ◌++◌, OnOk};
 ghost use Rattle.finding_text.specs.Facts as spec;
 

@@ -1,4 +1,4 @@
-//! The findings of an obligation, in lines.
+//! Writes the findings of an obligation, in lines.
 use crate::cases::{CasePlace, place_of};
 use crate::paragraph::put_paragraph;
 use crate::told::{put_finding, put_reads};

@@ -1,4 +1,4 @@
-//! What each signal of an obligation picks, and what is required.
+//! Writes what each signal of an obligation picks, and what is required.
 use crate::values::Values;
 use crate::words::put_value;
 use ctl_atoms::{AtomKind, Leaf};

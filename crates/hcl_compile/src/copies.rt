@@ -1,4 +1,4 @@
-//! Copies of terms.
+//! Copies terms: nodes that evaluate a whole term keep a copy of it.
 ghost use Rattle.std.specs.Prelude.{◌≡◌, IfOk};
 
 use hcl_types::{Term, TermBranch};

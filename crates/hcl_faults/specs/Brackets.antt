@@ -1,4 +1,4 @@
--- The brackets that are open after some tokens: which ones a reader still expects to be closed.
+-- The brackets that are open after some tokens: which ones the reader still expects to be closed.
 use Rattle.std.specs.Prelude.{Bool, true, false, if◌then◌else◌, List, [], ◌∷◌}
 use Rattle.hcl_faults.specs.declared.kinds.TokenKind.{TokenKind}
 use Rattle.hcl_faults.specs.declared.kinds.TokenKind.TheVariants as kinds

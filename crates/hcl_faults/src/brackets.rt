@@ -1,4 +1,4 @@
-//! The brackets that are open after some tokens.
+//! The brackets that are open after some tokens: which ones the reader still expects to be closed.
 ghost use Rattle.std.specs.Prelude.{◌≡◌, IfOk, OnOk, reverse};
 ghost use Rattle.hcl_faults.specs.Brackets as spec;
 

@@ -1,4 +1,4 @@
-//! Where definitions and their cases begin.
+//! Finds the places of definitions and of their cases in an HCL text.
 use crate::kinds::TokenKind;
 use crate::places::{TextPlace, place_at};
 use crate::tokens::{TokenAt, token_list};

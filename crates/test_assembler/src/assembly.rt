@@ -1,4 +1,4 @@
-//! Statements that are accepted with bytes assembled by hand, and sources that are refused.
+//! Tests of statements that are accepted, with bytes assembled by hand, and of sources that are refused.
 use std::process::Abort;
 use std::test::Fail;
 use y86_base::Variant;

@@ -1,4 +1,4 @@
-//! Listings of the assembler, line by line.
+//! Tests of the assembler's listings, line by line.
 use std::process::Abort;
 use std::test::Fail;
 use y86_base::Variant;

@@ -1,4 +1,4 @@
-//! Object text that is printed and read back, and each reason of a refusal.
+//! Tests of object text: it is printed and read back, and refused for each reason.
 use std::test::Fail;
 use y86_base::Variant;
 use yas_asm::assemble;

@@ -1,4 +1,4 @@
-//! Single steps, and instructions with their bytes, against results worked out by hand.
+//! Tests of single steps and of the encoding of instructions, against results worked out by hand.
 use std::alloc::Global;
 use std::process::Abort;
 use std::test::Fail;

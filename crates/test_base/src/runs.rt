@@ -1,4 +1,4 @@
-//! Runs at the level of instructions, and their reports.
+//! Tests of runs at the level of instructions, and of their reports.
 use std::test::Fail;
 use wb_io::{Failed, MemSink};
 use y86_base::{Image, Variant};

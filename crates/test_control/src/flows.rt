@@ -1,5 +1,5 @@
-//! Which contents D, E, M and W may have, and when the predicted PC is that of the next instruction, worked out by
-//! hand.
+//! Tests which contents D, E, M and W may have, and when the predicted PC is that of the next instruction, against
+//! results worked out by hand.
 ghost use Rattle.std.specs.Prelude.{◌<◌, ℕ};
 ghost use Rattle.pipe_motion.specs.Gates.{HasStageFlow};
 

@@ -1,4 +1,4 @@
-//! Compares the gate of a definition with the meaning of its term, at all values of what it reads: icode and ifun, and
+//! Tests the gate of a definition against the meaning of its term, at all values of what it reads: icode and ifun, and
 //! the truth of its comparison of words, if any.
 ghost use Rattle.std.specs.Prelude.{◌≡◌, ◌<◌, ◌≤◌, IfOk, length};
 ghost use Rattle.hcl_types.specs.Tables.{IsBound, IsOrderOf};

@@ -1,4 +1,4 @@
-//! The lines that control valuations can have, counted by hand.
+//! Tests the number of lines that control valuations can have, against counts by hand.
 ghost use Rattle.std.specs.Prelude.{◌≡◌, IfOk, length};
 ghost use Rattle.pipe_fields.specs.Layout.{bit_count};
 

@@ -1,4 +1,4 @@
-//! Diagrams of small formulas that were worked out by hand, and of large ones with known counts.
+//! Tests of the diagrams of small formulas that were worked out by hand, and of large ones with known counts.
 ghost use Rattle.std.specs.Prelude.{◌≡◌, IfOk, IfSome, length};
 ghost use Rattle.bdd_core.specs.Meaning.{IsDia};
 

@@ -1,4 +1,4 @@
-//! Diagrams of samples, and their paths.
+//! Builds the diagrams of samples, and counts their paths.
 ghost use Rattle.std.specs.Prelude.{IfSome};
 ghost use Rattle.bdd_core.specs.Meaning.{IsDia};
 

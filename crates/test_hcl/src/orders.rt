@@ -1,4 +1,4 @@
-//! Orders of signals, and the nodes of definitions.
+//! Tests of the orders of signals, and of the nodes of definitions.
 ghost use Rattle.std.specs.Prelude.{◌<◌};
 
 use dp_signals::{constant_words, law_of_tables, pipe_table, seq_table};

@@ -1,4 +1,4 @@
-//! The tree of each form of item and expression.
+//! Tests of the tree of each form of item and expression.
 use hcl_print::print;
 use hcl_read::read;
 use hcl_tree::{Branch, CmpOp, Expr, File, Item, Kind, Text};

@@ -1,4 +1,4 @@
-//! The values of terms: by the evaluator that walks them, and by compiled signals.
+//! Tests of the values of terms: by the evaluator that walks them, and by compiled signals.
 ghost use Rattle.std.specs.Prelude.{◌≡◌};
 ghost use Rattle.dp_signals.specs.PipeTable.{pipe_rows};
 

@@ -1,4 +1,4 @@
--- The clauses of the whole program, from what the code did: once for all commands.
+-- The clauses of the contract of a whole call, from what the code did: once for all commands.
 use Rattle.std.proofs.Common.{◌≡◌, ◌≢◌, ◌⊎◌, ℕ, ◌≤◌, List, [], refl, sym, ap, subst, inl, inr, Option, Some, None, Result, Ok, Err, lit≤, arith, ◌∙◌}
 use Rattle.wb_io.specs.Causes.{counted}
 use Rattle.wb_io.specs.Sinks.{Appended}

@@ -1,4 +1,4 @@
--- How a call ends.
+-- How a call ends, from what the code did.
 use Rattle.std.proofs.Common.{◌≡◌, ℕ, Option, Some, None, Result, Ok, Err, inl, inr, refl, subst}
 use Rattle.cli_plans.specs.PlanFollowing.{FilesState, SinkState}
 use Rattle.cli_plans.specs.Calls.{WroteError}

@@ -1,4 +1,4 @@
--- What is shown of a run, as an answer, and the plan of a call.
+-- What the program shows of a run, as an answer, and the plan of a call.
 use Rattle.std.specs.Prelude.{◌≡◌, ℕ, List, Option}
 use Rattle.dp_signals.specs.PipeTable.{pipe_rows}
 use Rattle.dp_signals.specs.SeqTable.{seq_rows}
