@@ -9,7 +9,7 @@ use Rattle.yas_asm.specs.Grammar.{read_line}
 use Rattle.asm_faults.specs.declared.lines.LineFault.{LineFault}
 use Rattle.asm_faults.specs.Faulty.{with_fault, faulty}
 
--- what the loop keeps
+-- the loop invariant: the faults so far, and those of the rest
 pub record Noted (variant : Variant) (source : List ℕ) (number : ℕ) (list : List LineFault) (rest : List ℕ) : Type 0 where
   pub few : number + length rest ≤ length source + 1
   pub same : list ++ faulty variant number (lines rest) ≡ faulty variant 1 (lines source)

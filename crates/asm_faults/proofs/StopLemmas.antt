@@ -1,4 +1,4 @@
--- A line stops somewhere exactly where it is not of the form.
+-- A line stops somewhere exactly if it is not well-formed.
 use Rattle.std.proofs.Common.{◌≡◌, ℕ, Bool, true, false, if◌then◌else◌, List, [], ◌∷◌, refl, sym, ap, ◌∙◌, arith}
 use Rattle.std.specs.Prelude.{Option, Some, None, is_some, is_none, option_and_then}
 use Rattle.y86_base.specs.declared.parts.Variant.{Variant}
@@ -23,12 +23,12 @@ use Rattle.asm_faults.specs.declared.parts.Part.TheVariants.{Register, Value, Di
 use Rattle.asm_faults.specs.Parts.{parts_of_shape, parts_of_directive}
 use Rattle.asm_faults.specs.Stops.{behind, behind_positive, behind_end, behind_part, stop_at, stop_of, operands_stop, instruction_stop, statement_from, statement_stop, line_stop, StopsWhereFaulty}
 
--- whether what is behind a thing passes a test
+-- whether what follows a thing passes a test
 abbrev pub goes_on : Option (List ℕ) → (List ℕ → Bool) → Bool
 goes_on None test = false
 goes_on (Some rest) test = test rest
 
--- whether all of some parts follow each other
+-- whether all parts of a list follow each other
 unfoldable pub goes : List Part → List ℕ → Bool
 goes [] rest = true
 goes (part ∷ parts) rest = goes_on (behind_part part rest) (goes parts)

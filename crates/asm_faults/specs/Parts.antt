@@ -1,4 +1,4 @@
--- The parts of a line: what the grammar wants one after the other.
+-- The parts of a line: what the grammar requires, one after the other.
 use Rattle.std.specs.Prelude.{List, [], ◌∷◌}
 use Rattle.yas_asm.specs.declared.statement.Shape.{Shape}
 use Rattle.yas_asm.specs.declared.statement.Shape.TheVariants as shapes
@@ -7,7 +7,7 @@ use Rattle.yas_asm.specs.declared.statement.Directive.TheVariants as directives
 use Rattle.asm_faults.specs.declared.parts.Part.{Part}
 use Rattle.asm_faults.specs.declared.parts.Part.TheVariants.{Register, Value, Displacement, Comma, OpenParenthesis, CloseParenthesis, Natural, Positive, LineEnd}
 
--- behind a mnemonic
+-- the parts after a mnemonic
 abbrev pub parts_of_shape : Shape → List Part
 parts_of_shape shapes.Alone = LineEnd ∷ []
 parts_of_shape shapes.Registers = Register ∷ Comma ∷ Register ∷ LineEnd ∷ []
@@ -17,7 +17,7 @@ parts_of_shape shapes.Load = Displacement ∷ OpenParenthesis ∷ Register ∷ C
 parts_of_shape shapes.Target = Value ∷ LineEnd ∷ []
 parts_of_shape shapes.Single = Register ∷ LineEnd ∷ []
 
--- behind a directive
+-- the parts after a directive
 abbrev pub parts_of_directive : Directive → List Part
 parts_of_directive directives.Position = Natural ∷ LineEnd ∷ []
 parts_of_directive directives.Align = Positive ∷ LineEnd ∷ []

@@ -1,4 +1,4 @@
-//! The faults of assembly as facts: every faulty line, the place of its fault, and what the grammar wants there.
+//! The faults of assembly as data: every faulty line, the place of its fault, and what the grammar requires there.
 #![tactic(auto)]
 
 mod lines;

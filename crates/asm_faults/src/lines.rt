@@ -1,4 +1,4 @@
-//! The lines of a source that are faulty by themselves.
+//! Finds all lines of a source that are faulty by themselves: the assembler reports only the first fault.
 ghost use Rattle.std.specs.Prelude.{◌≡◌, ◌++◌, [], IfOk, OnOk};
 ghost use Rattle.yas_asm.specs.Grammar.{read_line};
 ghost use Rattle.y86_base.specs.Text.{lines};
@@ -8,14 +8,14 @@ use std::alloc::Global;
 use y86_base::{Memory, Variant, first_line};
 use yas_asm::{AsmWhy, read_line};
 
-/// A line, counted from 1, with the reason for which it is refused by itself.
+/// A line, counted from 1, with the reason why it is refused by itself.
 #[derive(Clone, Copy, Debug, PartialEq, Eq)]
 pub struct LineFault {
     pub line: u64,
     pub why: AsmWhy,
 }
 
-/// Notes the fault of a line, if it is faulty by itself.
+/// Appends the fault of a line, if it is faulty by itself.
 fn note_line(
     list: &mut Vec<LineFault>,
     variant: Variant,

@@ -1,10 +1,10 @@
-//! The parts of a line: what the grammar wants one after the other.
+//! The parts of a line: what the grammar requires, one after the other.
 ghost use Rattle.std.specs.Prelude.{◌≡◌};
 ghost use Rattle.asm_faults.specs.Parts as spec;
 
 use yas_asm::{Directive, Shape};
 
-/// What the grammar of a line wants next.
+/// What the grammar of a line requires next.
 #[derive(Clone, Copy, Debug, PartialEq, Eq)]
 pub enum Part {
     /// A mnemonic or a directive.
@@ -13,7 +13,7 @@ pub enum Part {
     Register,
     /// A number or a label, with an optional `$` in front.
     Value,
-    /// The same, or nothing where `(` comes next.
+    /// The same, or nothing if `(` comes next.
     Displacement,
     Comma,
     OpenParenthesis,
@@ -22,7 +22,7 @@ pub enum Part {
     Natural,
     /// A number that is at least 1.
     Positive,
-    /// The end of the line, a comment apart.
+    /// The end of the line. A comment may come before it.
     LineEnd,
 }
 
@@ -60,7 +60,7 @@ static POSITION: [Part; 2] = [Part::Natural, Part::LineEnd];
 
 static ALIGN: [Part; 2] = [Part::Positive, Part::LineEnd];
 
-/// The parts behind a mnemonic whose operands have a shape.
+/// The parts after a mnemonic whose operands have a shape.
 pub fn parts_of_shape(shape: Shape) -> &'static [Part]
     ensures { result.now ≡ spec.parts_of_shape shape }
 {
@@ -75,7 +75,7 @@ pub fn parts_of_shape(shape: Shape) -> &'static [Part]
     }
 }
 
-/// The parts behind a directive.
+/// The parts after a directive.
 pub fn parts_of_directive(directive: Directive) -> &'static [Part]
     ensures { result.now ≡ spec.parts_of_directive directive }
 {

@@ -1,4 +1,4 @@
-//! The tokens of a line, each with the bytes behind it.
+//! Reads the tokens of a line; each function also returns the bytes after its token.
 ghost use Rattle.std.specs.Prelude.{◌≡◌, MatchOption, None, Some, length, IsTrue, ◌≤◌};
 ghost use Rattle.std.specs.Option.{option_copied};
 ghost use Rattle.yas_asm.specs.Comments as comments;
@@ -15,7 +15,7 @@ use y86_base::{
 };
 use yas_asm::{Directive, Reader, directives};
 
-/// The bytes behind a sign.
+/// The bytes after a sign.
 #[tactic(auto, unfolding(yas_asm::specs::Tokens::sign))]
 pub fn sign(bytes: &[u8], wanted: u8) -> Option<&[u8]>
     ensures { option_copied result ≡ tokens.sign wanted bytes.now }
@@ -23,7 +23,7 @@ pub fn sign(bytes: &[u8], wanted: u8) -> Option<&[u8]>
     after_byte(after_blanks(bytes), wanted)
 }
 
-/// The bytes behind a sign that may be absent.
+/// The bytes after an optional sign.
 #[tactic(auto, unfolding(yas_asm::specs::Tokens::after_sign))]
 fn after_sign(bytes: &[u8], wanted: u8) -> &[u8]
     ensures { result.now ≡ tokens.after_sign wanted bytes.now }
@@ -40,7 +40,7 @@ fn is_name_start(byte: u8) -> bool
     is_letter(byte) || byte == b'_'
 }
 
-/// The name in front, and the bytes behind it.
+/// The name in front, and the bytes after it.
 #[tactic(auto, unfolding(yas_asm::specs::Tokens::name))]
 pub fn name(bytes: &[u8]) -> Option<(&[u8], &[u8])>
     ensures { MatchOption result (tokens.name bytes.now ≡ None) (λ x. tokens.name bytes.now ≡ Some (x.0.now, x.1.now)) }
@@ -65,7 +65,7 @@ fn is_hex_number(bytes: &[u8]) -> bool
     }
 }
 
-/// The number in front of a text without blanks, and the bytes behind it.
+/// The number at the start of a text without leading blanks, and the bytes after it.
 fn number_at(bytes: &[u8]) -> Option<(Number, &[u8])>
     ensures { MatchOption result (tokens.number_at bytes.now ≡ None)
         (λ x. tokens.number_at bytes.now ≡ Some (x.0, x.1.now)) }
@@ -83,7 +83,7 @@ fn number_at(bytes: &[u8]) -> Option<(Number, &[u8])>
     Some((number, behind))
 }
 
-/// The number in front, and the bytes behind it.
+/// The number in front, and the bytes after it.
 #[tactic(auto, unfolding(yas_asm::specs::Tokens::number))]
 pub fn number(bytes: &[u8]) -> Option<(Number, &[u8])>
     ensures { MatchOption result (tokens.number bytes.now ≡ None) (λ x. tokens.number bytes.now ≡ Some (x.0, x.1.now)) }
@@ -91,7 +91,7 @@ pub fn number(bytes: &[u8]) -> Option<(Number, &[u8])>
     number_at(after_blanks(bytes))
 }
 
-/// The bytes behind a register.
+/// The bytes after a register.
 #[tactic(auto, unfolding(yas_asm::specs::Tables::register))]
 fn after_register(bytes: &[u8]) -> Option<&[u8]>
     ensures { option_copied result ≡ spec.behind (tables.register bytes.now) }
@@ -102,7 +102,7 @@ fn after_register(bytes: &[u8]) -> Option<&[u8]>
     }
 }
 
-/// The directive in front, and the bytes behind it.
+/// The directive in front, and the bytes after it.
 #[tactic(auto, unfolding(yas_asm::specs::Tables::directive))]
 pub fn directive(bytes: &[u8]) -> Option<(Directive, &[u8])>
     ensures { MatchOption result (tables.directive bytes.now ≡ None) (λ x. tables.directive bytes.now ≡ Some (x.0, x.1.now)) }
@@ -110,7 +110,7 @@ pub fn directive(bytes: &[u8]) -> Option<(Directive, &[u8])>
     keyword_at(directives(), after_blanks(bytes))
 }
 
-/// The bytes behind a number or a label.
+/// The bytes after a number or a label.
 #[tactic(auto, unfolding(yas_asm::specs::Grammar::operand))]
 fn after_value(bytes: &[u8]) -> Option<&[u8]>
     ensures { option_copied result ≡ spec.behind (grammar.operand Eight bytes.now) }
@@ -125,7 +125,7 @@ fn after_value(bytes: &[u8]) -> Option<&[u8]>
     }
 }
 
-/// The bytes behind a number or a label that may be absent in front of `(`.
+/// The bytes after a number or a label, which may be missing in front of `(`.
 #[tactic(auto, unfolding(yas_asm::specs::Grammar::displacement))]
 fn after_displacement(bytes: &[u8]) -> Option<&[u8]>
     ensures { option_copied result ≡ spec.behind (grammar.displacement bytes.now) }
@@ -136,7 +136,7 @@ fn after_displacement(bytes: &[u8]) -> Option<&[u8]>
     after_value(bytes)
 }
 
-/// A number that is not negative, and the bytes behind it; None inside for one of 2^64 or more.
+/// A number that is not negative, and the bytes after it. The inner `None` is a number of 2^64 or more.
 #[tactic(auto, unfolding(yas_asm::specs::Grammar::natural))]
 fn natural(bytes: &[u8]) -> Option<(Option<u64>, &[u8])>
     ensures { MatchOption result (grammar.natural bytes.now ≡ None) (λ x. grammar.natural bytes.now ≡ Some (x.0, x.1.now)) }
@@ -149,7 +149,7 @@ fn natural(bytes: &[u8]) -> Option<(Option<u64>, &[u8])>
     }
 }
 
-/// The bytes behind a number that is not negative.
+/// The bytes after a number that is not negative.
 fn after_natural(bytes: &[u8]) -> Option<&[u8]>
     ensures { option_copied result ≡ spec.behind (grammar.natural bytes.now) }
 {
@@ -159,7 +159,7 @@ fn after_natural(bytes: &[u8]) -> Option<&[u8]>
     }
 }
 
-/// The bytes behind a number that is at least 1.
+/// The bytes after a number that is at least 1.
 fn after_positive(bytes: &[u8]) -> Option<&[u8]>
     ensures { option_copied result ≡ spec.behind_positive (grammar.natural bytes.now) }
 {
@@ -170,21 +170,21 @@ fn after_positive(bytes: &[u8]) -> Option<&[u8]>
     }
 }
 
-/// Whether the line ends here, a comment apart.
+/// Whether the line, apart from a comment, ends here.
 pub fn ends(bytes: &[u8]) -> bool
     ensures { result ≡ comments.ends bytes.now }
 {
     Reader::new(bytes).ends()
 }
 
-/// The bytes again where the line ends here.
+/// The bytes, unchanged, if the line ends here.
 fn after_end(bytes: &[u8]) -> Option<&[u8]>
     ensures { option_copied result ≡ spec.behind_end (comments.ends bytes.now) bytes.now }
 {
     if ends(bytes) { Some(bytes) } else { None }
 }
 
-/// The bytes behind a part, or None where another thing stands in front.
+/// The bytes after a part, or `None` if something else is there.
 #[tactic(auto, unfolding(crate::specs::Stops::behind_part))]
 pub fn after_part(part: Part, bytes: &[u8]) -> Option<&[u8]>
     ensures { option_copied result ≡ spec.behind_part part bytes.now }
@@ -203,7 +203,7 @@ pub fn after_part(part: Part, bytes: &[u8]) -> Option<&[u8]>
     }
 }
 
-/// The bytes behind a label, where one stands in front.
+/// The bytes after the label, if there is one in front.
 #[tactic(auto, unfolding(yas_asm::specs::Grammar::label))]
 pub fn after_label(bytes: &[u8]) -> &[u8]
     ensures { result.now ≡ (grammar.label bytes.now).1 }

@@ -1,4 +1,4 @@
-//! Where a line stops being one of the language.
+//! Finds where a line stops being well-formed, and what the grammar requires there.
 ghost use Rattle.std.specs.Prelude.{◌≡◌, MatchOption, None, Some};
 ghost use Rattle.yas_asm.specs.Tables as tables;
 ghost use Rattle.yas_asm.specs.Tokens as tokens;
@@ -9,7 +9,7 @@ use crate::reading::{after_label, after_part, directive, ends, name};
 use y86_base::{Variant, meaning_of};
 use yas_asm::{Operation, mnemonics};
 
-/// The first part that does not stand where it should, and the bytes there.
+/// The first part that is not where it should be, and the bytes there.
 #[tactic(auto, unfolding(crate::specs::Stops::stop_of))]
 fn stop_of<'a>(parts: &[Part], bytes: &'a [u8]) -> Option<(Part, &'a [u8])>
     ensures { MatchOption result (spec.stop_of parts.now bytes.now ≡ None)
@@ -29,7 +29,7 @@ fn stop_of<'a>(parts: &[Part], bytes: &'a [u8]) -> Option<(Part, &'a [u8])>
     None
 }
 
-/// What a name stands for as a mnemonic.
+/// The operation that a name means as a mnemonic.
 #[tactic(auto, unfolding(yas_asm::specs::Tables::mnemonic))]
 fn mnemonic(variant: Variant, name: &[u8]) -> Option<Operation>
     ensures { result ≡ tables.mnemonic variant name.now }
@@ -66,8 +66,8 @@ fn statement_stop(variant: Variant, bytes: &[u8]) -> Option<(Part, &[u8])>
     }
 }
 
-/// Where a line stops being one of the language: the part that is wanted there, and the bytes from there on, blanks
-/// in front of them included; None for a line of the form, whether or not its numbers are in bounds
+/// Where a line stops being well-formed: the part that the grammar requires there, and the bytes from there on,
+/// including blanks in front of them. `None` if the line is well-formed, whether or not its numbers are in bounds
 /// (`law_of_stops`).
 #[tactic(auto, unfolding(crate::specs::Stops::line_stop))]
 pub fn line_stop(variant: Variant, bytes: &[u8]) -> Option<(Part, &[u8])>
@@ -77,7 +77,7 @@ pub fn line_stop(variant: Variant, bytes: &[u8]) -> Option<(Part, &[u8])>
     statement_stop(variant, after_label(bytes))
 }
 
-/// A line stops somewhere exactly where it is not of the form.
+/// A line stops somewhere exactly if it is not well-formed.
 #[tactic(auto, using(crate::proofs::StopLemmas::stops_where_faulty))]
 pub fn law_of_stops()
     ensures { spec.StopsWhereFaulty }

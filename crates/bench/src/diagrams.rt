@@ -1,9 +1,9 @@
-//! Diagrams of the sample formulas: how many paths lead to their truth, and how many nodes were made.
+//! Measures the diagrams of the sample formulas: how many paths lead to their truth, and how many nodes were made.
 use std::alloc::{AllocError, Global};
 use test_formulas::{Formula, Sample, built, paths};
 
-/// What a formula comes to: how many paths lead to its truth, whether it is valid, and how many nodes were made. The
-/// number of a diagram that was built last tells how many nodes there are.
+/// The results for a formula: how many paths lead to its truth, whether it is valid, and how many nodes were made. The
+/// number of the diagram that was built last shows how many nodes there are.
 #[derive(Drop)]
 struct Outcome {
     paths: u64,
@@ -24,7 +24,7 @@ fn formula_of(alloc: Global, text: &str) -> Option<Formula> {
     sample.formula(alloc, size)
 }
 
-/// What the formula comes to that a text names.
+/// The results for the formula that a text names.
 fn found(alloc: Global, text: &str) -> Option<Outcome> {
     let formula = formula_of(alloc, text)?;
     let (store, root, other) = built(alloc, &formula)?;
@@ -35,7 +35,7 @@ fn found(alloc: Global, text: &str) -> Option<Outcome> {
     })
 }
 
-/// The answer to a line, and nothing where it names no formula that can be built.
+/// The answer to a line, and nothing if it names no formula that can be built.
 pub fn answer(alloc: Global, line: &str) -> Result<Option<String>, AllocError> {
     if let Some(text) = line.strip_prefix("nodes ") {
         return match found(alloc, text) {

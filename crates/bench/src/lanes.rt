@@ -1,4 +1,4 @@
-//! Gates on 512 valuations at once, and on one valuation after another.
+//! Measures the gates on 512 valuations at once, and on one valuation after another.
 ghost use Rattle.std.specs.Prelude.{◌≡◌, IfOk, length};
 
 use control_check::file_rules;
@@ -34,7 +34,7 @@ fn obligations(alloc: Global) -> Option<Net> {
     Some(rules.net)
 }
 
-/// So many vectors of a word.
+/// The vectors for `n` variables, made from a word.
 fn vectors(alloc: Global, n: u32, word: u64) -> Result<Vec<u64x8>, Memory>
     ensures { IfOk result (λ v. length v.items ≡ n) }
 {
@@ -47,7 +47,7 @@ fn vectors(alloc: Global, n: u32, word: u64) -> Result<Vec<u64x8>, Memory>
     Ok(lanes)
 }
 
-/// Evaluates all gates on blocks, and adds up the first places in which the last one is false.
+/// Evaluates all gates on blocks, and adds up the first places at which the last gate is false.
 fn evaluated(net: &Net, s: &mut Scratch, lanes: &[u64x8], blocks: u64) -> u64
     requires has_truth { length s.old ≡ length net.now.gates }
     requires lanes { length lanes.now ≡ net.now.vars }
@@ -63,7 +63,7 @@ fn evaluated(net: &Net, s: &mut Scratch, lanes: &[u64x8], blocks: u64) -> u64
     total
 }
 
-/// Evaluates the gates on so many blocks, and tells how many gates there are.
+/// Evaluates the gates on `blocks` blocks, and returns the number of gates.
 fn measured(alloc: Global, blocks: u64) -> Option<u64> {
     let net = obligations(alloc)?;
     let Ok(lanes) = vectors(alloc, net.vars(), 0x1234_5678_9abc_def1) else {
@@ -76,7 +76,7 @@ fn measured(alloc: Global, blocks: u64) -> Option<u64> {
     Some(net.len())
 }
 
-/// Evaluates the last gate on so many valuations, one after another, and tells how many gates there are.
+/// Evaluates the last gate on `count` valuations, one after another, and returns the number of gates.
 fn one_by_one(alloc: Global, count: u64) -> Option<u64> {
     let net = obligations(alloc)?;
     let gates = net.len();
@@ -97,7 +97,7 @@ fn one_by_one(alloc: Global, count: u64) -> Option<u64> {
     Some(gates)
 }
 
-/// The answer to a count of blocks, or of single valuations; nothing where it is none.
+/// The answer to a number of blocks, or of single valuations; nothing if `count` is no number.
 pub fn answer(alloc: Global, name: &str, count: &str) -> Result<Option<String>, AllocError> {
     let Ok(count) = count.parse::<u64>() else {
         return Ok(None);

@@ -1,10 +1,12 @@
-//! Measures of what the program `y86` doesn't show by itself. Each line of the input is a request:
+//! Measures what the program `y86` doesn't show by itself. Each line of the input is a request:
 //!
-//! - `adders BITS` shows two adders equal by their diagrams, `queens SIDE` solves the queens' problem, and `words BITS` shows when two
-//!   words are equal, with their bits in an order that wants many nodes; `nodes` before it asks how many nodes were made;
-//! - `psim CYCLES` and `ssim CYCLES` run the book's PIPE or SEQ on the evaluator that walks the terms, in an endless loop;
-//! - `gates BLOCKS` evaluates the gates of the obligations of the book's PIPE on so many blocks of 512 valuations, and `single COUNT` on so
-//!   many valuations, one after another.
+//! - `adders BITS` shows two adders equal by their diagrams, `queens SIDE` solves the queens' problem, and `words BITS`
+//!   shows when two words are equal, with their bits in an order that needs many nodes; with `nodes` before it the
+//!   answer is how many nodes were made;
+//! - `psim CYCLES` and `ssim CYCLES` run the book's PIPE or SEQ on the evaluator that walks the terms, in an endless
+//!   loop;
+//! - `gates BLOCKS` evaluates the gates of the obligations of the book's PIPE on this number of blocks of 512
+//!   valuations, and `single COUNT` on this number of valuations, one after another.
 #![tactic(auto)]
 
 mod diagrams;
@@ -14,7 +16,7 @@ mod walked;
 use std::alloc::{AllocError, Global};
 use std::io;
 
-/// What a line comes to, and nothing where it isn't a request.
+/// The result for a line, and nothing if it isn't a request.
 fn came(alloc: Global, line: &str) -> Result<Option<String>, AllocError> {
     let (name, rest) = line.split_once(' ').unwrap_or((line, ""));
     match name {

@@ -1,4 +1,4 @@
-//! The datapaths of the book on the evaluator that walks the terms.
+//! Runs the book's datapaths on the evaluator that walks the terms.
 ghost use Rattle.std.specs.Prelude.{◌≡◌, ◌<◌, ◌^◌};
 
 use dp_signals::{law_of_tables, pipe_table, seq_table};
@@ -33,7 +33,7 @@ fn image(alloc: Global) -> Option<Image> {
     Some(mem)
 }
 
-/// The records that retire on PIPE in so many cycles.
+/// The number of records that retire on PIPE in this number of cycles.
 fn on_pipe(alloc: Global, cycles: u64) -> Option<u64>
     requires { cycles < 2 ^ 32 }
 {
@@ -62,7 +62,7 @@ fn on_pipe(alloc: Global, cycles: u64) -> Option<u64>
     }
 }
 
-/// The instructions that SEQ runs in so many cycles.
+/// The number of instructions that SEQ runs in this number of cycles.
 fn on_seq(alloc: Global, cycles: u64) -> Option<u64> {
     let Ok(table) = seq_table(alloc) else {
         return None;
@@ -85,7 +85,7 @@ fn on_seq(alloc: Global, cycles: u64) -> Option<u64> {
     Some(run(&mut seq, cycles).steps)
 }
 
-/// The answer to a machine and a count of cycles, and nothing where it is none.
+/// The answer to a machine and a number of cycles, and nothing if `cycles` is no number.
 pub fn answer(alloc: Global, machine: &str, cycles: &str) -> Result<Option<String>, AllocError> {
     let Ok(cycles) = cycles.parse::<u32>() else {
         return Ok(None);

@@ -1,4 +1,4 @@
--- The verdict on a design, as an answer.
+-- The verdict on a design as an answer, from what the code found.
 use Rattle.std.proofs.Common.{◌≡◌, ℕ, List, ◌∷◌, [], codes, refl, inl, inr, sym, ap, ◌∙◌, subst, None, Some, Result, Err, Vec}
 use Rattle.std.specs.Borrow.{Bor}
 use Rattle.std.specs.Global.{Global}
@@ -53,7 +53,7 @@ denied which name v terms ids denial text a order found said told =
       told = told ∙ ap (done 1) (said ∙ ap (λ (list : List Atom). no_text which denial.rule denial.valuation.bits list) same);
     }))
 
--- and as what was said
+-- and as what was written
 pub said_yes : (which : Datapath) (name : List ℕ) (v : Variant) (terms : List Term) (text : List ℕ) (old new : SinkState) (result : Result ℕ code.StopReason) → IsDecided which v terms None →
     text ≡ codes "yes\n" →
     WritesAnswer (λ a. a ≡ done 0 text) old new result → WritesAnswer (SeqChecks which name v terms) old new result
@@ -95,7 +95,7 @@ pub said_pipe_yes : (name : List ℕ) (v : Variant) (terms : List Term) (text : 
 said_pipe_yes name v terms text old new result accepts s =
     says_more (λ a. a ≡ done 0 text) (PipeChecks name v terms) old new result (λ a is. inl (subst (AnswersYesPipe v terms) (sym is) accepts)) s
 
--- a No that ends a check
+-- a `no` that ends a check
 pub said_denied : (name : List ℕ) (v : Variant) (terms : List Term) (text : List ℕ) (old new : SinkState) (result : Result ℕ code.StopReason) → AnswersNoPipe v terms (done 1 text) →
     WritesAnswer (λ a. a ≡ done 1 text) old new result → WritesAnswer (RefusesPipe name v terms) old new result
 said_denied name v terms text old new result denies s =
@@ -106,7 +106,7 @@ pub said_pipe_no : (name : List ℕ) (v : Variant) (terms : List Term) (text : L
 said_pipe_no name v terms text old new result denies s =
     says_more (RefusesPipe name v terms) (PipeChecks name v terms) old new result (λ a refused. inr refused) (said_denied name v terms text old new result denies s)
 
--- a design without control values, as a stop
+-- a stop at a design without control values
 pub not_told : (name : List ℕ) (v : Variant) (terms : List Term) (stop : code.StopReason) →
     RefusesWith (RefusesControl name pipe_rows terms) stop → RefusesWith (RefusesPipe name v terms) stop
 not_told name v terms stop (inl memory) = inl memory

@@ -19,7 +19,7 @@ use Rattle.cli_checks.specs.declared.verdict.PipeDecision.TheVariants as decided
 use Rattle.cli_checks.specs.declared.verdict.PipeVerdictText.{PipeVerdictText}
 use Rattle.cli_checks.specs.declared.verdict.PipeVerdictText.TheVariants as pipe_text
 
--- the refusal of a design in which a definition mixes codes with words: the first is reported
+-- the refusal of a design in which a definition mixes codes with words: it reports the first such definition
 pub record RefusesMixed (name : List ℕ) (rows : List Row) (terms : List Term) (a : Answer) : Type 0 where
   pub row : ℕ
   pub first : IsFirstMixed rows terms row
@@ -33,15 +33,15 @@ pub record RefusesAtoms (name : List ℕ) (rows : List Row) (terms : List Term) 
 abbrev pub RefusesControl : List ℕ → List Row → List Term → Answer → Type 0
 RefusesControl name rows terms a = RefusesMixed name rows terms a ⊎ RefusesAtoms name rows terms a
 
--- ---- of a sequential datapath
+-- ---- for a sequential datapath
 
--- Yes: every obligation holds of the design, so its machine is that of the run of instructions
+-- `yes`: the design satisfies every obligation, so its machine is that of the run of instructions
 pub record AnswersYesSeq (which : Datapath) (v : Variant) (terms : List Term) (a : Answer) : Type 0 where
   pub accepted : Accepts which v terms
   pub refines : RefinesRun which v terms
   pub told : a ≡ done 0 (codes "yes\n")
 
--- No: the first obligation that is false of some valuation, and the least such valuation
+-- `no`: the first obligation that is false at some valuation, and the least such valuation
 pub record AnswersNoSeq (which : Datapath) (v : Variant) (terms : List Term) (a : Answer) : Type 0 where
   pub rule : ℕ
   pub valuation : List Bool
@@ -52,23 +52,23 @@ pub record AnswersNoSeq (which : Datapath) (v : Variant) (terms : List Term) (a 
 abbrev pub SeqChecks : Datapath → List ℕ → Variant → List Term → Answer → Type 0
 SeqChecks which name v terms a = AnswersYesSeq which v terms a ⊎ (AnswersNoSeq which v terms a ⊎ RefusesControl name (rows_of which) terms a)
 
--- ---- of the pipeline
+-- ---- for the pipeline
 
--- Yes: every obligation holds of the design at its settings, so its pipeline refines the run of instructions
+-- `yes`: the design satisfies every obligation at its settings, so its pipeline refines the run of instructions
 pub record AnswersYesPipe (v : Variant) (terms : List Term) (a : Answer) : Type 0 where
   pub settings : Settings
   pub accepted : pipe.AcceptsPipe v terms settings
   pub refines : pipe.RefinesPipe v terms
   pub told : a ≡ done 0 (pipe_yes settings)
 
--- No: the first obligation that is false of some valuation, and the least such valuation, at the design's settings
+-- `no`: the first obligation that is false at some valuation, and the least such valuation, at the design's settings
 pub record AnswersNoPipe (v : Variant) (terms : List Term) (a : Answer) : Type 0 where
   pub rule : ℕ
   pub valuation : List Bool
   pub rejected : pipe.RejectsPipe v terms rule valuation
   pub told : a ≡ done 1 (pipe_no (row_names pipe_rows) rule valuation rejected.settings.atoms)
 
--- the answers that end the check of a design for PIPE without a Yes
+-- the answers to the check of a design for PIPE that isn't accepted
 abbrev pub RefusesPipe : List ℕ → Variant → List Term → Answer → Type 0
 RefusesPipe name v terms a = AnswersNoPipe v terms a ⊎ RefusesControl name pipe_rows terms a
 
@@ -76,12 +76,12 @@ RefusesPipe name v terms a = AnswersNoPipe v terms a ⊎ RefusesControl name pip
 abbrev pub PipeChecks : List ℕ → Variant → List Term → Answer → Type 0
 PipeChecks name v terms a = AnswersYesPipe v terms a ⊎ RefusesPipe name v terms a
 
--- the settings of a Yes of a design for PIPE, or the text of a No
+-- the settings of an accepted design for PIPE, or the text of a `no`
 abbrev pub IsPipeDecision : Variant → List Term → PipeDecision → Type 0
 IsPipeDecision v terms (decided.Yes settings) = pipe.AcceptsPipe v terms settings × pipe.RefinesPipe v terms
 IsPipeDecision v terms (decided.No text) = AnswersNoPipe v terms (done 1 text.items)
 
--- a text tells a Yes or a No of a design for PIPE
+-- the text is that of a `yes` or a `no` for a PIPE design
 abbrev pub IsPipeVerdictText : Variant → List Term → PipeVerdictText → Type 0
 IsPipeVerdictText v terms (pipe_text.Yes text) = AnswersYesPipe v terms (done 0 text.items)
 IsPipeVerdictText v terms (pipe_text.No text) = AnswersNoPipe v terms (done 1 text.items)

@@ -1,4 +1,5 @@
--- What a check asks of the designs of the two sequential datapaths, what it says of one that is accepted, and the text of a No.
+-- What a check asks about designs for the two sequential datapaths, what follows from its `yes`, and the text of a
+-- `no`.
 use Rattle.std.specs.Prelude.{ℕ, Bool, List, Option, Some, None}
 use Rattle.control_check.specs.SeqVerdicts.{AcceptsSeq, seq_questions}
 use Rattle.ctl_atoms.specs.Atoms.{AreAtoms}
@@ -23,7 +24,7 @@ abbrev pub questions_of : Datapath → Variant → ObligationSet
 questions_of Seq v = seq_questions v
 questions_of Plus v = plus_questions v
 
--- the design has control values, and every obligation holds of it
+-- the design has control values, and satisfies every obligation
 abbrev pub Accepts : Datapath → Variant → List Term → Type 0
 Accepts Seq v terms = AcceptsSeq v terms
 Accepts Plus v terms = AcceptsPlus v terms
@@ -33,7 +34,7 @@ abbrev pub RefinesRun : Datapath → Variant → List Term → Type 0
 RefinesRun Seq v terms = RefinesSeq v terms
 RefinesRun Plus v terms = RefinesPlus v terms
 
--- some obligation is false of some valuation: the first such, and the least valuation of which it is
+-- some obligation is false at some valuation: the first such obligation, and the least such valuation
 pub record Rejects (which : Datapath) (v : Variant) (terms : List Term) (rule : ℕ) (w : List Bool) : Type 0 where
   pub atoms : List Atom
   pub are : AreAtoms (rows_of which) terms atoms
@@ -43,7 +44,7 @@ abbrev pub IsDecided : Datapath → Variant → List Term → Option SeqRejectio
 IsDecided which v terms None = Accepts which v terms × RefinesRun which v terms
 IsDecided which v terms (Some d) = Rejects which v terms d.rule d.valuation.bits × AreAtoms (rows_of which) terms d.atoms
 
--- the text of a No of SEQ+, by the fields of its valuation
+-- the text of a `no` for SEQ+, by the fields of its valuation
 abbrev plus_text : List (List ℕ) → ℕ → Fields → List Bool → List Atom → List ℕ
 plus_text names rule c w atoms = plus_no names rule c.icode c.cnd c.line w atoms
 

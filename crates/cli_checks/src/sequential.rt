@@ -1,4 +1,4 @@
-//! Verdicts on designs for the sequential datapaths, and the text of a No.
+//! Verdicts on designs for the sequential datapaths, and the text of a `no`.
 ghost use Rattle.std.specs.Prelude.{◌≡◌, ◌≤◌, Err, IfErr, IfOk, OnErr, length};
 ghost use Rattle.dp_signals.specs.SeqTable.{seq_rows};
 ghost use Rattle.seq_plus.specs.PlusTable.{plus_rows};
@@ -19,7 +19,8 @@ use std::alloc::Global;
 use verdict_text::{plus_refusal, seq_refusal};
 use y86_base::{Items, Memory, Variant};
 
-/// A No: the first obligation that is false of some valuation, the least such valuation, and the design's atoms.
+/// Why a design isn't accepted: the first obligation that is false at some valuation, the least such valuation, and the
+/// design's atoms.
 #[derive(Debug, Drop)]
 pub struct SeqRejection {
     pub rule: u32,
@@ -27,7 +28,7 @@ pub struct SeqRejection {
     pub atoms: Items<Atom>,
 }
 
-/// The verdict on a design for SEQ, as `decided` gives it.
+/// The verdict on a design for SEQ; see `decided`.
 fn decide_seq(
     alloc: Global,
     variant: Variant,
@@ -54,7 +55,7 @@ fn decide_seq(
     }
 }
 
-/// The verdict on a design for SEQ+, as `decided` gives it.
+/// The verdict on a design for SEQ+; see `decided`.
 fn decide_plus(
     alloc: Global,
     variant: Variant,
@@ -81,7 +82,7 @@ fn decide_plus(
     }
 }
 
-/// The verdict on a design: `None` where it is accepted.
+/// The verdict on a design: `None` if it is accepted.
 pub fn decided(
     alloc: Global,
     which: Datapath,
@@ -98,7 +99,7 @@ pub fn decided(
     }
 }
 
-/// The text of a No, by the rows of the datapath's table and the design's atoms.
+/// The text of a `no`, by the rows of the datapath's table and the design's atoms.
 #[tactic(auto, unfolding(seq_plus::specs::Fields::fields_of, seq_obligations::specs::Fields::line_at))]
 fn refusal(
     alloc: Global,
@@ -118,7 +119,7 @@ fn refusal(
     }
 }
 
-/// The text of a No of a design.
+/// The text of a `no` for a design.
 pub fn seq_text<'a>(
     alloc: Global,
     which: Datapath,

@@ -54,7 +54,7 @@ pub fn control_stop<'a>(
     }
 }
 
-/// A verdict on PIPE: the settings of a Yes, or the text of a No.
+/// A verdict on PIPE: the settings of an accepted design, or the text of a `no`.
 #[derive(Debug, Drop)]
 pub enum PipeDecision {
     Yes(Settings),
@@ -68,7 +68,7 @@ pub enum PipeVerdictText {
     No(Vec<u8>),
 }
 
-/// The text of a No of PIPE, with the design's atoms.
+/// The text of a `no` for PIPE, with the design's atoms.
 fn pipe_no_text<'a>(
     alloc: Global,
     ordered: &OrderedDesign,
@@ -116,7 +116,7 @@ pub fn pipe_decision<'a>(
     }
 }
 
-/// Decides a design for PIPE, and gives the text of the verdict.
+/// Decides a design for PIPE, and returns the text of the verdict.
 #[tactic(auto, using(crate::proofs::Checks::tells_yes))]
 pub fn pipe_verdict<'a>(
     alloc: Global,

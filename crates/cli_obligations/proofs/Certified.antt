@@ -21,7 +21,7 @@ use Rattle.cli_plans.proofs.Does.{refusal_says, refused_says, says_more}
 pub has_atoms : (terms : List Term) (atoms : List Atom) → AreAtoms pipe_rows terms atoms → HasControlValues terms
 has_atoms terms atoms are = record { atoms = atoms; are = are }
 
--- a design that is accepted at settings meets its obligations at them
+-- a design that is accepted at settings satisfies its obligations at them
 pub meets : (v : Variant) (terms : List Term) (s : Settings) → pipe.AcceptsPipe v terms s → MeetsAt v terms s
 meets v terms s accepted = record { atoms = accepted.settings.atoms; are = accepted.settings.are; meets = accepted.holds }
 

@@ -1,4 +1,4 @@
--- What the gates of a file's rules tell at drawn valuations, in obligations; and the answers to a sample.
+-- What the gates of a file's rules at drawn valuations mean for its obligations; and the answers to a sample.
 use Rattle.std.proofs.Common.{◌≡◌, inl, inr, ℕ, ◌+◌, ◌-◌, ◌≤◌, Bool, true, List, length, get_or, slice_get, Option, Some, None, sym, ap, ◌∙◌, subst, Result, Err, arith}
 use Rattle.std.proofs.lemmas.Bool.{false≢true}
 use Rattle.std.proofs.lemmas.Option.{slice_get-get_or, slice_get_within}

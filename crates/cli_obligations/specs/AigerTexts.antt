@@ -20,8 +20,9 @@ use Rattle.cli_checks.specs.Checks.{RefusesControl}
 use Rattle.cli_plans.specs.Lines.{fault_line}
 use Rattle.cli_plans.specs.Plan.{Answer, done, refused}
 
--- a text of the form, with an input for each bit of a control valuation and 27 outputs, named by the obligations' numbers: output i
--- has a value at each valuation, and it is 1 exactly where obligation i + 1 is false there, at the design's settings
+-- a well-formed text, with an input for each bit of a control valuation and 27 outputs, named by the obligations'
+-- numbers: output i has a value at each valuation, and it is 1 exactly where obligation i + 1 is false there, at the
+-- design's settings
 pub record IsAigOfDesign (v : Variant) (terms : List Term) (text : List ℕ) : Type 0 where
   pub settings : Settings
   pub are : AreSettings v terms settings
@@ -60,7 +61,7 @@ pub record AnswersCounts (text : List ℕ) (seed : ℕ) (a : Answer) : Type 0 wh
   pub tells : PrintsCounts text seed counts
   pub told : a ≡ done 0 counts
 
--- the refusal of a text: its first line with a fault, and the first fault of that line
+-- the refusal of a text: the first line with a fault, and the first fault of this line
 pub record RefusesAag (name text : List ℕ) (a : Answer) : Type 0 where
   pub line : ℕ
   pub why : AagWhy

@@ -22,7 +22,7 @@ unfoldable pub aig_plan : List ℕ → Variant → Plan
 aig_plan name v =
     reads name hcl_limit (λ text. value_in (IsDesign pipe_rows text) (RefusesDesign name pipe_rows text) (λ terms. answer_in (AigAnswers name v terms)))
 
--- the most bytes that an AIGER text has
+-- the most bytes of an AIGER text
 abbrev pub aag_limit : ℕ
 aag_limit = 33554432
 
@@ -30,7 +30,7 @@ aag_limit = 33554432
 unfoldable pub aigrun_plan : List ℕ → ℕ → Plan
 aigrun_plan name seed = reads name aag_limit (λ text. answer_in (AigrunAnswers name text seed))
 
--- the verdict on a design for PIPE, with a certificate of a Yes
+-- the verdict on a design for PIPE, with a certificate if it is accepted
 unfoldable pub certify_pipe_plan : List ℕ → Variant → Plan
 certify_pipe_plan name v =
     reads name hcl_limit (λ text. value_in (IsDesign pipe_rows text) (RefusesDesign name pipe_rows text) (λ terms. answer_in (PipeCertifies name v terms)))

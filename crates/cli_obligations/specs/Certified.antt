@@ -23,7 +23,7 @@ use Rattle.cli_plans.specs.declared.stop_reason.StopReason.TheVariants.{Memory}
 use Rattle.cli_checks.specs.declared.verdict.PipeVerdictText.{PipeVerdictText}
 use Rattle.cli_checks.specs.declared.verdict.PipeVerdictText.TheVariants as pipe_text
 
--- the most bytes that a certificate has
+-- the most bytes of a certificate
 abbrev pub cert_limit : ℕ
 cert_limit = 536870912
 
@@ -40,7 +40,7 @@ cert_fault_line name fault = fault_line name fault.line (cert_reason fault.why)
 
 -- ---- `check pipe` with `--cert`
 
--- Yes: every obligation holds of the design at its settings, and the text is a certificate of it
+-- `yes`: the design satisfies every obligation at its settings, and the text is a certificate of it
 pub record CertifiesPipe (v : Variant) (terms : List Term) (a : Answer) : Type 0 where
   pub settings : Settings
   pub accepted : AcceptsPipe v terms settings
@@ -49,19 +49,19 @@ pub record CertifiesPipe (v : Variant) (terms : List Term) (a : Answer) : Type 0
   pub certificate : IsCertificate v terms settings text
   pub told : a ≡ done 0 text
 
--- the answers: a certificate, or what the check answers without a Yes
+-- the answers: a certificate, or what the check answers for a design that isn't accepted
 abbrev pub PipeCertifies : List ℕ → Variant → List Term → Answer → Type 0
 PipeCertifies name v terms a = CertifiesPipe v terms a ⊎ RefusesPipe name v terms a
 
--- a text is a certificate of a design, or tells a No of it
+-- a text is a certificate of a design, or the text of its `no`
 abbrev pub IsCertificateOrNo : Variant → List Term → PipeVerdictText → Type 0
 IsCertificateOrNo v terms (pipe_text.Yes text) = CertifiesPipe v terms (done 0 text.items)
 IsCertificateOrNo v terms (pipe_text.No text) = AnswersNoPipe v terms (done 1 text.items)
 
 -- ---- `recheck`
 
--- The text is a certificate of the design at the settings that it states. So every obligation holds of the design at these settings, and its
--- pipeline refines the run of instructions.
+-- The text is a certificate of the design at the settings that it states. So the design satisfies every obligation at
+-- these settings, and its pipeline refines the run of instructions.
 pub record AcceptsCert (v : Variant) (terms : List Term) (text : List ℕ) (a : Answer) : Type 0 where
   pub settings : Settings
   pub certificate : IsCertificate v terms settings text
@@ -69,13 +69,14 @@ pub record AcceptsCert (v : Variant) (terms : List Term) (text : List ℕ) (a : 
   pub refines : RefinesPipe v terms
   pub told : a ≡ done 0 (holds_line settings)
 
--- the text states no settings: its first or its second line isn't of its form
+-- the text states no settings: its first or its second line is malformed
 pub record RefusesHead (name text : List ℕ) (a : Answer) : Type 0 where
   pub fault : CertFault
   pub head : HasNoHead text fault
   pub told : a ≡ refused 5 (cert_fault_line name fault)
 
--- the first fault of the text is told, over what is demanded of the design at the settings that it states
+-- the refusal reports the first fault of the text, for the proof goals of the design at the settings that the text
+-- states
 pub record RefusesCert (name : List ℕ) (v : Variant) (terms : List Term) (text : List ℕ) (a : Answer) : Type 0 where
   pub fault : CertFault
   pub has : HasFault v terms text fault
@@ -85,14 +86,15 @@ pub record RefusesCert (name : List ℕ) (v : Variant) (terms : List Term) (text
 abbrev pub Rechecks : List ℕ → Variant → List Term → List ℕ → Answer → Type 0
 Rechecks name v terms text a = AcceptsCert v terms text a ⊎ (RefusesHead name text a ⊎ RefusesCert name v terms text a)
 
--- a stop tells why a text is no certificate
+-- a stop reports why a text is no certificate
 abbrev pub IsCertStop : List ℕ → CertError → code.StopReason → Type 0
 IsCertStop name (error.Cert fault) stop = (status_of stop ≡ 5) × (answer_at stop ≡ refused 5 (cert_fault_line name fault))
 IsCertStop name error.Memory stop = stop ≡ Memory
 
--- A file and a certificate of it: the bytes that are told of them, if any, are a text and the certificate; the text is read, bound and
--- ordered; every obligation holds of its design at the settings that the certificate states. So on every image whose instructions fetch no
--- byte that one of the three before them stored, its pipeline is after each number of cycles where the instructions are.
+-- A file and a certificate of it: what is known of their bytes, if anything, is that they are a text and the
+-- certificate; the text is read, bound and ordered; its design satisfies every obligation at the settings that the
+-- certificate states. So on every image whose instructions fetch no byte that one of the three before them stored, its
+-- pipeline agrees with the run of instructions after each number of cycles.
 pub record HasCertified (v : Variant) (told told_cert : Option (Option (List ℕ))) : Type 0 where
   pub text : List ℕ
   pub has : HasBytes told text

@@ -1,4 +1,4 @@
--- What a sample of drawn valuations says of a design, and its answers.
+-- What a sample of drawn valuations finds for a design, and its answers.
 use Rattle.std.specs.Prelude.{◌≡◌, ◌⊎◌, ℕ, ◌<◌, ◌≤◌, codes, List, [], ◌∷◌, length, Option, Some, None}
 use Rattle.std.specs.List.{concat}
 use Rattle.pipe_obligations.specs.Rules.{rule_count}
@@ -19,20 +19,21 @@ pub record DrawnOf (v : Variant) (terms : List Term) : Type 0 where
   pub settings : Settings
   pub are : AreSettings v terms settings
 
--- obligation k is false there
+-- obligation k is false at valuation i
 abbrev pub IsFalseDrawn : (v : Variant) (terms : List Term) → DrawnOf v terms → ℕ → ℕ → ℕ → Type 0
 IsFalseDrawn v terms d seed i k = IsFalseAt v d.are.atoms (PipeControls terms) d.settings k (valuation v (length d.are.atoms) seed i)
 
--- no obligation is
+-- no obligation is false at valuation i
 abbrev pub NoneFalseDrawn : (v : Variant) (terms : List Term) → DrawnOf v terms → ℕ → ℕ → Type 0
 NoneFalseDrawn v terms d seed i = (k : ℕ) → 1 ≤ k → k ≤ rule_count → IsFalseDrawn v terms d seed i k → ⊥
 
--- no obligation is false at any of the first valuations
+-- no obligation is false at any of the first `count` valuations
 pub record FindsNone (v : Variant) (terms : List Term) (seed count : ℕ) : Type 0 where
   pub drawn : DrawnOf v terms
   pub none : (i : ℕ) → i < count → NoneFalseDrawn v terms drawn seed i
 
--- an obligation is false at one of them, none is at those before it, and no lesser one is at it
+-- an obligation is false at one of them, none is false at an earlier one, and no obligation with a smaller number is
+-- false at it
 pub record FindsFirst (v : Variant) (terms : List Term) (seed count index rule : ℕ) : Type 0 where
   pub drawn : DrawnOf v terms
   pub within : index < count

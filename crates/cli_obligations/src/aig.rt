@@ -56,7 +56,8 @@ fn say_obligations<'a, O: Sink>(
     }
 }
 
-/// `aig`: writes the obligations of an HCL file for PIPE at its settings, each as an output that is 1 where it is false.
+/// `aig`: writes the obligations of an HCL file for PIPE at its settings, each as an output that is 1 where the
+/// obligation is false.
 pub fn aig_file<'a, F: Files, O: Sink>(
     alloc: Global,
     name: &'a str,

@@ -1,4 +1,4 @@
-//! `aigrun`: at how many of 512 vectors each output of an AIGER text is 1.
+//! `aigrun`: counts, for each output of an AIGER text, at how many of 512 vectors it is 1.
 ghost use Rattle.std.specs.Prelude.{◌≡◌, IfErr, IfOk, List, ℕ};
 ghost use Rattle.aiger_run.specs.PrintedCounts.{PrintsCounts};
 ghost use Rattle.cli_obligations.specs.AigerTexts.{AigrunAnswers, RefusesAag, aag_reason};
@@ -11,10 +11,10 @@ use cli_plans::{InputFault, StopReason, read_file, write_answer};
 use std::alloc::Global;
 use wb_io::{Files, Sink};
 
-/// The most bytes that an AIGER text has.
+/// The most bytes of an AIGER text.
 const AAG_LIMIT: u64 = 33_554_432;
 
-/// The name of a reader's reason.
+/// The name of a reason for which an AIGER text is refused.
 fn reason(why: AagWhy) -> &'static [u8]
     ensures { result.now ≡ aag_reason why }
 {
@@ -28,7 +28,7 @@ fn reason(why: AagWhy) -> &'static [u8]
     }
 }
 
-/// The counts of a text under a name.
+/// The counts of a text. `name` is the file's name, for messages.
 #[tactic(auto, using(crate::proofs::AigerTexts::refuses_aag))]
 fn counts_of<'a>(
     alloc: Global,
@@ -69,7 +69,7 @@ fn say_counts<'a, O: Sink>(
     }
 }
 
-/// `aigrun`: reads an AIGER text, and writes at how many of the vectors 0 to 511 of a seed each output is 1.
+/// `aigrun`: reads an AIGER text, and writes for each output at how many of the vectors 0 to 511 of a seed it is 1.
 pub fn aigrun_file<'a, F: Files, O: Sink>(
     alloc: Global,
     name: &'a str,

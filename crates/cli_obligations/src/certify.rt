@@ -1,4 +1,4 @@
-//! `check pipe` with `--cert`: the verdict on the design of an HCL file, with a certificate of a Yes.
+//! `check pipe` with `--cert`: the verdict on the design of an HCL file, with a certificate if it is accepted.
 ghost use Rattle.std.specs.Prelude.{◌≡◌, IfErr, IfOk, List, ℕ};
 ghost use Rattle.dp_signals.specs.PipeTable.{pipe_rows};
 ghost use Rattle.cli_obligations.specs.Answers.{certify_pipe_plan};
@@ -14,7 +14,7 @@ use std::alloc::Global;
 use wb_io::{Files, Sink};
 use y86_base::Variant;
 
-/// Decides a design for PIPE, and gives a certificate of a Yes, or the text of a No.
+/// Decides a design for PIPE, and returns a certificate that it is accepted, or the text of a `no`.
 #[tactic(auto, using(crate::proofs::Certified::meets, crate::proofs::Certified::certified))]
 fn certificate<'a>(
     alloc: Global,
@@ -38,7 +38,7 @@ fn certificate<'a>(
     }
 }
 
-/// Decides a design for PIPE, and writes a certificate of a Yes, or a No.
+/// Decides a design for PIPE, and writes a certificate that it is accepted, or a `no`.
 #[tactic(auto, using(crate::proofs::Certified::said_certificate, crate::proofs::Certified::said_no, crate::proofs::Certified::said_refusal))]
 fn say_certificate<'a, O: Sink>(
     alloc: Global,
@@ -57,8 +57,8 @@ fn say_certificate<'a, O: Sink>(
     }
 }
 
-/// `check pipe` with `--cert`: decides whether PIPE under an HCL file does what its instructions mean, for every program
-/// that doesn't store over one of the next three instructions, and writes a certificate of a Yes.
+/// `check pipe` with `--cert`: decides whether PIPE under an HCL file does what its instructions mean, for every
+/// program that doesn't store over one of the next three instructions, and if so writes a certificate.
 pub fn certify_pipe_file<'a, F: Files, O: Sink>(
     alloc: Global,
     name: &'a str,

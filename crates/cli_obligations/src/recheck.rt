@@ -1,4 +1,4 @@
-//! `recheck`: the check of a certificate of the design of an HCL file.
+//! `recheck`: checks a certificate of the design of an HCL file.
 ghost use Rattle.std.specs.Prelude.{◌≡◌, List, ℕ};
 ghost use Rattle.ctl_atoms.specs.Atoms.{AreAtoms};
 ghost use Rattle.dp_signals.specs.PipeTable.{pipe_rows};
@@ -17,10 +17,10 @@ use std::alloc::Global;
 use wb_io::{Files, Sink};
 use y86_base::Variant;
 
-/// The most bytes that a certificate has.
+/// The most bytes of a certificate.
 const CERT_LIMIT: u64 = 536_870_912;
 
-/// The name of a certificate's reason.
+/// The name of a reason for which a certificate is refused.
 fn cert_why(why: CertWhy) -> &'static [u8]
     ensures { result.now ≡ cert_reason why }
 {
@@ -67,7 +67,7 @@ fn pipe_atoms<'a>(
     }
 }
 
-/// Checks a text as a certificate of a design, and tells its settings.
+/// Checks a text as a certificate of a design, and writes its settings.
 #[tactic(auto, using(crate::proofs::Certified::said_holds, crate::proofs::Certified::said_cert_refusal))]
 fn say_recheck<'a, O: Sink>(
     alloc: Global,
@@ -111,7 +111,7 @@ fn recheck_text<'a, F: Files, O: Sink>(
     say_recheck(alloc, cert, variant, ordered, text.as_slice(), out)
 }
 
-/// `recheck`: checks a certificate of the design of an HCL file, without a decision of its own.
+/// `recheck`: checks a certificate of the design of an HCL file, without deciding again.
 pub fn recheck_certificate<'a, F: Files, O: Sink>(
     alloc: Global,
     name: &'a str,

@@ -1,4 +1,4 @@
-//! `sample`: drawn control valuations against the obligations of an HCL file for PIPE.
+//! `sample`: tries drawn control valuations against the obligations of an HCL file for PIPE.
 ghost use Rattle.std.specs.Prelude.{◌≡◌, ◌≤◌, IfErr, IfOk, List, ℕ};
 ghost use Rattle.dp_signals.specs.PipeTable.{pipe_rows};
 ghost use Rattle.cli_obligations.specs.Answers.{sample_plan};
@@ -16,14 +16,14 @@ use std::alloc::Global;
 use wb_io::{Files, Sink, put_pieces};
 use y86_base::{Memory, Numeral, Variant};
 
-/// What a call of `sample` asks for.
+/// The parameters of `sample`.
 #[derive(Clone, Copy, Debug)]
 pub struct SampleRequest<'a> {
     /// The name of the HCL file.
     pub hcl: &'a str,
-    /// What the valuations are drawn from.
+    /// The seed that the valuations are drawn from.
     pub seed: u64,
-    /// How many valuations are drawn at most.
+    /// The most valuations that are drawn.
     pub count: u64,
     /// The instruction set.
     pub variant: Variant,
@@ -49,7 +49,7 @@ fn sampled<'a>(
     }
 }
 
-/// Writes that no obligation is false at so many valuations.
+/// Writes that no obligation is false at this number of valuations.
 #[tactic(auto, unfolding(crate::specs::Samples::none_line))]
 fn say_none<'a, O: Sink>(count: u64, out: &mut O) -> Result<u8, StopReason<'a>>
     ensures { WritesAnswerOn O.taken O.faults (λ a. a ≡ done 0 (none_line count)) out.old out.new result }
@@ -77,7 +77,7 @@ fn say_found<'a, O: Sink>(found: Found, out: &mut O) -> Result<u8, StopReason<'a
     }
 }
 
-/// Samples a design, and writes what is found.
+/// Samples a design, and writes the result.
 #[tactic(auto, using(crate::proofs::Samples::said_none, crate::proofs::Samples::said_found, crate::proofs::Samples::said_sample_refusal))]
 fn say_sample<'a, O: Sink>(
     alloc: Global,

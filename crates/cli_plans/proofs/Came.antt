@@ -1,4 +1,4 @@
--- What came of a plan, from what the code did.
+-- From what the code did to the outcome of a plan.
 use Rattle.std.proofs.Common.{◌≡◌, ℕ, ◌<◌, ◌≤◌, List, [], ◌∷◌, length, refl, ap, subst, inl, inr, Option, Some, None, Result, Ok, Err, lit≤, arith}
 use Rattle.wb_io.specs.Files.{HasBytes, HasMore}
 use Rattle.cli_plans.specs.declared.stop_reason.StopReason as code
@@ -27,7 +27,7 @@ leaf_came P files_before files_after before after (Err (Refused name why)) s =
 leaf_came P files_before files_after before after (Err Memory) s = inl (inl refl, s)
 leaf_came P files_before files_after before after (Err (TooLong name limit)) s = absurd s
 
--- ---- what came of a part of a plan came of the plan
+-- ---- the outcome of a part of a plan is an outcome of the plan
 
 lost_more : (part plan : Plan) (files_before files_after : FilesState) (stop : code.StopReason) →
     ((name : List ℕ) → IsReached part files_before.told name → IsReached plan files_before.told name) →
@@ -49,7 +49,7 @@ came_more part plan files_before files_after before after result reached allowed
     inl (loses_more part plan files_before files_after before after result reached l)
 came_more part plan files_before files_after before after result reached allowed (inr (a, is, fits)) = inr (a, allowed a is, fits)
 
--- ---- a read that stops
+-- ---- a read at which the plan stops
 
 comes_first : (name : List ℕ) (limit : ℕ) (next : List ℕ → Plan) (contents : List (Option (List ℕ))) → ComesTo (reads name limit next) contents name
 comes_first name limit next [] = refl
@@ -91,7 +91,7 @@ reading_came : (name : List ℕ) (limit : ℕ) (next : List ℕ → Plan) (files
 reading_came name limit next files_before files_after before after (Ok status) s = absurd s
 reading_came name limit next files_before files_after before after (Err stop) s = read_stop_came name limit next files_before files_after before after stop s.0 s.1
 
--- ---- a read that goes on
+-- ---- a read after which the plan goes on
 
 is_told : (known : Option (Option (List ℕ))) (bytes other : List ℕ) → HasBytes known bytes → known ≡ Some (Some other) → bytes ≡ other
 is_told known bytes other has tells = let same : Some other ≡ Some bytes = rw tells at has in cc (same)
@@ -99,7 +99,7 @@ is_told known bytes other has tells = let same : Some other ≡ Some bytes = rw 
 is_not_told : (known : Option (Option (List ℕ))) (bytes : List ℕ) → HasBytes known bytes → known ≡ Some None → ⊥
 is_not_told known bytes has tells = let same : None ≡ Some bytes = rw tells at has in absurd (cc (same))
 
--- what holds behind a read holds of it, for all contents that are told
+-- what holds after a read holds for the read, for all contents that are known
 told_behind : (Q : Plan → List (Option (List ℕ)) → Type 0) (name : List ℕ) (limit : ℕ) (next : List ℕ → Plan) (told : List ℕ → Option (Option (List ℕ))) (bytes : List ℕ) →
     ((rest : List (Option (List ℕ))) → Q (next bytes) rest → Q (reads name limit next) (Some bytes ∷ rest)) →
     length bytes ≤ limit → HasBytes (told name) bytes → ((contents : List (Option (List ℕ))) → HasContents told (next bytes) contents → Q (next bytes) contents) →
@@ -145,7 +145,7 @@ end_reached : {A : Type 0} (P : A → Type 0) (E : Answer → Type 0) (next : A 
     IsReached (answer_in E) told file → IsReached (value_in P E next) told file
 end_reached P E next told file h = absurd h.by_some
 
--- the one theorem on plans
+-- the main theorem on plans
 pub came : (plan : Plan) (files_before files_after : FilesState) (before after : SinkState) (result : Result ℕ code.StopReason) →
     FollowsPlan plan files_before files_after before after result → CallOutcome plan files_before files_after before after result
 unfolding FollowsPlan

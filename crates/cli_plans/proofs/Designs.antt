@@ -1,4 +1,4 @@
--- The design of an HCL file, from what reading, binding and ordering answer.
+-- The design of an HCL file, from the results of reading, binding and ordering.
 use Rattle.std.proofs.Common.{◌≡◌, ◌≢◌, ◌∙◌, ◌<◌, ◌+◌, ℕ, List, [], ◌∷◌, ◌++◌, length, take, get_or, slice_get, unwrap_or, refl, sym, ap, inl, inr, Ok, Err, append_assoc, append-nil}
 use Rattle.std.proofs.lemmas.List.{take_more}
 use Rattle.hcl_read.specs.Read.{ReadsAs}
@@ -50,7 +50,7 @@ names_append : (names : List (List ℕ)) (xs ys : List ℕ) → names_at names (
 names_append names [] ys = refl
 names_append names (x ∷ xs) ys = ap (λ more. unwrap_or (slice_get names x) [] ∷ more) (names_append names xs ys)
 
--- one more name
+-- another name
 pub names_more : (names : List (List ℕ)) (ids : List ℕ) (i d : ℕ) (text old name : List ℕ) → i < length ids → old ≡ blank_names (names_at names (take i ids)) →
     names_at names (get_or ids i d ∷ []) ≡ name ∷ [] → text ≡ old ++ (32 ∷ name) → text ≡ blank_names (names_at names (take (i + 1) ids))
 names_more names ids i d text old name inside so_far one more =

@@ -1,4 +1,4 @@
--- How a call goes on, stage after stage.
+-- How a call follows its plan, stage after stage.
 use Rattle.std.proofs.Common.{◌≡◌, ◌⊎◌, ℕ, ◌≤◌, List, length, refl, ap, ◌∙◌, inl, inr, Option, Some, None, IfSome, Result, Ok, Err}
 use Rattle.wb_io.specs.Causes.{counted}
 use Rattle.wb_io.specs.Files.{HasBytes, HasMore}
@@ -37,7 +37,7 @@ reading_earlier : (name : List ℕ) (limit : ℕ) (first before last : FilesStat
 reading_earlier name limit first before last old new (Ok status) later s = s
 reading_earlier name limit first before last old new (Err stop) later s = (stops_earlier name limit first before last stop later s.0, s.1)
 
--- what a call did from a later state of the files on, it did from the earlier one on
+-- what a call did from a later state of the files on, it also did from the earlier one on
 Does_earlier : (plan : Plan) (first before last : FilesState) (old new : SinkState) (result : Result ℕ code.StopReason) → IsLater first before →
     FollowsPlan plan before last old new result → FollowsPlan plan first last old new result
 unfolding FollowsPlan
@@ -62,13 +62,13 @@ pub read_stops : (name : List ℕ) (limit : ℕ) (next : List ℕ → Plan) (fir
 unfolding FollowsPlan
 read_stops name limit next first last seen stop s = inl (s, refl)
 
--- one of the answers is given
+-- the call gives one of the answers
 pub said : (P : Answer → Type 0) (files : FilesState) (old new : SinkState) (result : Result ℕ code.StopReason) →
     WritesAnswer P old new result → FollowsPlan (answer_in P) files files old new result
 unfolding FollowsPlan
 said P files old new result s = (s, λ name. refl)
 
--- the answer is given
+-- the call gives this answer
 pub gives_it : (answered : Answer) (files : FilesState) (old new : SinkState) (result : Result ℕ code.StopReason) →
     WritesAnswer (λ a. a ≡ answered) old new result → FollowsPlan (answers answered) files files old new result
 unfolding FollowsPlan
@@ -80,7 +80,7 @@ pub one_goes_on : {A : Type 0} (P : A → Type 0) (E : Answer → Type 0) (x : A
 unfolding FollowsPlan
 one_goes_on P E x next first last old new result p d = inl (x, p, d)
 
--- a stage ends early, with an answer that is given
+-- a stage ends early, and the call gives one of its answers
 pub one_ends : {A : Type 0} (P : A → Type 0) (E : Answer → Type 0) (next : A → Plan) (files : FilesState) (old new : SinkState)
     (result : Result ℕ code.StopReason) → WritesAnswer E old new result → FollowsPlan (value_in P E next) files files old new result
 unfolding FollowsPlan
@@ -94,7 +94,7 @@ refusal_says P seen (Refused name why) five p = (p, refl)
 refusal_says P seen Memory five p = absurd (cc (five))
 refusal_says P seen (TooLong name limit) five p = absurd (cc (five))
 
--- a stop that refuses with one of these answers says one of those
+-- a stop that refuses with an answer of E also gives an answer of P
 pub refused_says : (P E : Answer → Type 0) (seen : SinkState) (stop : code.StopReason) → ((a : Answer) → E a → P a) → RefusesWith E stop → WritesAnswer P seen seen (Err stop)
 refused_says P E seen stop f (inl memory) = rw memory refl
 refused_says P E seen stop f (inr refused) = refusal_says P seen stop refused.0 (f _ refused.1)
@@ -130,7 +130,7 @@ read_stage_stops name limit P E next first last seen stop (inr (bytes, read, ref
     read_goes_on name limit (λ xs. value_in (P xs) (E xs) next) first last last seen seen (Err stop) bytes read.later read.short read.has
     (one_refuses (P bytes) (E bytes) next last seen stop refuses)
 
--- the same of a stage that gives what is defined
+-- the same for a stage whose result is a function
 pub stage_goes_on : {A : Type 0} (stage : Result A Answer) (x : A) (next : A → Plan) (first last : FilesState) (old new : SinkState) (result : Result ℕ code.StopReason) →
     stage ≡ Ok x → FollowsPlan (next x) first last old new result → FollowsPlan (value_from stage next) first last old new result
 unfolding value_from
@@ -141,7 +141,7 @@ pub stage_refuses : {A : Type 0} (stage : Result A Answer) (next : A → Plan) (
 unfolding value_from
 stage_refuses stage next files seen stop g = one_refuses (λ x. stage ≡ Ok x) (λ a. stage ≡ Err a) next files seen stop g
 
--- of the allowed answers this one is given
+-- an answer that P allows is also one that Q allows
 pub says_more : (P Q : Answer → Type 0) (old new : SinkState) (result : Result ℕ code.StopReason) → ((a : Answer) → P a → Q a) → WritesAnswer P old new result → WritesAnswer Q old new result
 says_more P Q old new (Ok status) f s =
     record { answer = s.answer; allowed = f s.answer s.allowed; status_is = s.status_is; low = s.low; quiet = s.quiet; went = s.went; no_fault = s.no_fault }

@@ -1,4 +1,4 @@
--- What the stages of the commands give.
+-- The results of the stages that commands share.
 use Rattle.std.proofs.Common.{◌≡◌, ◌≢◌, ℕ, List, refl, inl, inr}
 use Rattle.std.specs.Borrow.{Bor}
 use Rattle.cli_plans.specs.declared.stop_reason.InputFault.TheVariants.{AtPlace}
@@ -10,7 +10,7 @@ use Rattle.hcl_read.specs.Read.{IsReadFault}
 use Rattle.hcl_read.specs.declared.fault.HclFault.{HclFault}
 use Rattle.hcl_read.specs.declared.fault.HclWhy.TheVariants as whys
 
--- an HCL text that is refused has a fault, and its line tells it
+-- an HCL text that is refused has a fault, and its line reports the fault
 pub hcl_refused : (name why : Bor (List ℕ)) (text : List ℕ) (fault : HclFault) → fault.why ≢ whys.Memory → IsReadFault text fault → why.now ≡ hcl_reason fault.why →
     RefusesHcl name.now text (answer_at (Refused name (AtPlace fault.line fault.col why)))
 hcl_refused name why text fault other (inl memory) reason = absurd (other memory.0)

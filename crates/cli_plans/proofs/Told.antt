@@ -5,7 +5,7 @@ use Rattle.wb_io.specs.Sinks.{Appended, AppendedPrefix}
 use Rattle.cli_plans.specs.PlanFollowing.{SinkState}
 use Rattle.cli_plans.specs.Calls.{WroteError}
 
--- a text that was put on standard error
+-- a text that was written on standard error
 pub told_whole : (before after : SinkState) (text : List ℕ) → Appended before.taken after.taken text → after.faults ≡ before.faults → WroteError before after text
 told_whole before after text took same = inl (took, same)
 

@@ -1,4 +1,4 @@
--- The design of an HCL file over a table: the text is read, bound, and its signals have an order.
+-- The design of an HCL file over a table: the text is read and bound, and its signals have an order.
 use Rattle.std.specs.Prelude.{◌≡◌, ◌⊎◌, ℕ, List, Ok, Err}
 use Rattle.hcl_read.specs.Read.{IsFault, ReadsAs}
 use Rattle.hcl_read.specs.declared.fault.HclFault.{HclFault}

@@ -1,4 +1,4 @@
--- The lines on standard error.
+-- The lines that the program writes on standard error.
 use Rattle.std.specs.Prelude.{ℕ, codes, List, [], ◌∷◌, map, slice_get, unwrap_or}
 use Rattle.std.specs.List.{concat}
 use Rattle.hcl_read.specs.declared.fault.HclFault.{HclFault}
@@ -71,7 +71,7 @@ place_line name line column reason =
 abbrev pub hcl_fault_line : List ℕ → HclFault → List ℕ
 hcl_fault_line name fault = place_line name fault.line fault.col (hcl_reason fault.why)
 
--- a fault about names of a file: each stands behind a blank
+-- a fault about names of a file: each has a blank before it
 abbrev pub blank_names : List (List ℕ) → List ℕ
 blank_names names = concat (map (λ name. 32 ∷ name) names)
 

@@ -1,4 +1,4 @@
--- What a call did to the outside, against a plan.
+-- What a call did to files and streams, compared with a plan.
 use Rattle.std.specs.Prelude.{◌≡◌, ◌⊎◌, ℕ, ◌≤◌, List, [], length, Option, Some, IfSome, Result, Ok, Err}
 use Rattle.wb_io.specs.Causes.{counted}
 use Rattle.wb_io.specs.Files.{HasBytes, HasMore}
@@ -8,12 +8,12 @@ use Rattle.cli_plans.specs.declared.stop_reason.StopReason.TheVariants.{Write, R
 use Rattle.cli_plans.specs.Plan.{Answer, Plan, value_in, answer_in, reads}
 use Rattle.cli_plans.specs.Stops.{answer_at, status_of}
 
--- the files: what they tell, and for each name a count of the reads that failed
+-- the files: what is known of their contents, and for each name the number of failed reads
 pub record FilesState : Type 0 where
   pub told : List ℕ → Option (Option (List ℕ))
   pub faults : List ℕ → ℕ
 
--- standard output or standard error: what it has taken, and a count of the writes that failed
+-- standard output or standard error: what was written to it, and the number of failed writes
 pub record SinkState : Type 0 where
   pub taken : Option (List ℕ)
   pub faults : ℕ
@@ -33,7 +33,8 @@ pub record IsLater (before after : FilesState) : Type 0 where
   pub stays : (name : List ℕ) → IfSome (before.told name) (λ known. after.told name ≡ Some known)
   pub counts : NoReadFailed before after
 
--- why a read of a file stopped: it failed; or none did, and the file has more bytes than the limit, or memory was wanted
+-- why a read of a file stopped: it failed; or no read failed, and the file has more bytes than the limit, or memory was
+-- out
 abbrev pub StopsAtRead : List ℕ → ℕ → FilesState → FilesState → code.StopReason → Type 0
 StopsAtRead name limit before after Memory = NoReadFailed before after
 StopsAtRead name limit before after (Read other) = (other.now ≡ name) × (after.faults name ≡ counted (before.faults name))
@@ -49,12 +50,12 @@ abbrev pub IsStageResultIn : {A B : Type 0} → (A → Type 0) → (Answer → T
 IsStageResultIn P E view (Ok x) = P (view x)
 IsStageResultIn P E view (Err stop) = RefusesWith E stop
 
--- a stage gives what is defined, or the refusal that is defined, or out of memory
+-- a stage yields what its definition does: the value, or the refusal; or memory is out
 abbrev pub IsStageResult : {A B : Type 0} → (B → A) → Result A Answer → Result B code.StopReason → Type 0
 IsStageResult view defined (Ok x) = defined ≡ Ok (view x)
 IsStageResult view defined (Err stop) = RefusesWith (λ a. defined ≡ Err a) stop
 
--- these bytes of a file were read, within a limit; they agree with what the files tell, and no read failed
+-- these bytes of a file were read, within a limit; they agree with what is known of the file, and no read failed
 pub record IsRead (name : List ℕ) (limit : ℕ) (before after : FilesState) (bytes : List ℕ) : Type 0 where
   pub short : length bytes ≤ limit
   pub has : HasBytes (before.told name) bytes
@@ -66,7 +67,7 @@ IsReadResultIn name limit P E view before after (Ok x) = (bytes : List ℕ) × I
 IsReadResultIn name limit P E view before after (Err stop) =
     StopsAtRead name limit before after stop ⊎ ((bytes : List ℕ) × IsRead name limit before after bytes × RefusesWith (E bytes) stop)
 
--- one of the answers went out whole, and nothing is to be told on standard error
+-- one of the answers was written whole, and there is nothing for standard error
 pub record WroteWhole (P : Answer → Type 0) (before after : SinkState) (status : ℕ) : Type 0 where
   pub answer : Answer
   pub allowed : P answer
@@ -76,14 +77,14 @@ pub record WroteWhole (P : Answer → Type 0) (before after : SinkState) (status
   pub went : Appended before.taken after.taken answer.out
   pub no_fault : after.faults ≡ before.faults
 
--- a write failed, and a proper prefix of one of the answers went out
+-- a write failed, and a proper prefix of one of the answers was written
 pub record WrotePart (P : Answer → Type 0) (before after : SinkState) : Type 0 where
   pub answer : Answer
   pub allowed : P answer
   pub went : AppendedPrefix before.taken after.taken answer.out
   pub one_fault : after.faults ≡ counted before.faults
 
--- one of the answers was said: written on standard output, or given as a refusal; at a refusal and when memory runs out
+-- one of the answers was given: written on standard output, or as a refusal; at a refusal, or if memory runs out,
 -- nothing was written
 abbrev pub WritesAnswer : (Answer → Type 0) → SinkState → SinkState → Result ℕ code.StopReason → Type 0
 WritesAnswer P before after (Ok status) = WroteWhole P before after status
@@ -98,7 +99,8 @@ StopsReading name limit files_before files_after before after (Ok status) = ⊥
 StopsReading name limit files_before files_after before after (Err stop) =
     StopsAtRead name limit files_before files_after stop × (after ≡ before)
 
--- a call did what a plan says, by some contents that agree with what the files tell; no read failed but one that it ended with
+-- a call followed a plan, for some contents that agree with what is known of the files; no read failed except one that
+-- ended the call
 unfoldable pub FollowsPlan : Plan → FilesState → FilesState → SinkState → SinkState → Result ℕ code.StopReason → Type 0
 FollowsPlan (answer_in P) files_before files_after before after result = WritesAnswer P before after result × NoReadFailed files_before files_after
 FollowsPlan (reads name limit next) files_before files_after before after result =
@@ -107,7 +109,7 @@ FollowsPlan (reads name limit next) files_before files_after before after result
 FollowsPlan (value_in {A} P E next) files_before files_after before after result =
     ((x : A) × P x × FollowsPlan (next x) files_before files_after before after result) ⊎ (WritesAnswer E before after result × NoReadFailed files_before files_after)
 
--- ---- over any files and any sink, by what they tell, take and count
+-- ---- for any files and any sink, by what is known of them, what was written, and the counts of failures
 
 abbrev pub WritesAnswerOn : {O : Type 0} → (O → Option (List ℕ)) → (O → ℕ) → (Answer → Type 0) → O → O → Result ℕ code.StopReason → Type 0
 WritesAnswerOn taken faults P before after result = WritesAnswer P (sink_state (taken before) (faults before)) (sink_state (taken after) (faults after)) result

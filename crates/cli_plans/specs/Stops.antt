@@ -1,4 +1,4 @@
--- The stops of the program, against the definition of its answers.
+-- The stops of the program as answers: their statuses and lines.
 use Rattle.std.specs.Prelude.{ℕ, List, [], Option, Some, None}
 use Rattle.cli_plans.specs.declared.stop_reason.InputFault as code_refusal
 use Rattle.cli_plans.specs.declared.stop_reason.InputFault.TheVariants.{AtLine, AtPlace, OfNames}

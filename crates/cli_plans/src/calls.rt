@@ -1,4 +1,4 @@
-//! What is around the command of every call: the words behind the program's own name, and a stop on standard error.
+//! What every call has apart from its command: the words after the program's own name, and a stop on standard error.
 ghost use Rattle.std.specs.Prelude.{◌≡◌, ◌⊎◌, ◌↔◌, ◌≢◌, drop, IfOk};
 ghost use Rattle.std.specs.IoError.{error_kind};
 ghost use Rattle.std.specs.Vec.Iter.{into_iter_items};
@@ -16,12 +16,12 @@ use wb_io::Sink;
 
 /// The status that the program ends with, from 0 to 7.
 ///
-/// 0: done, and a run ended at a halt. 1: a run ended otherwise. 2: the words are no command. 3: a read of a file that the
-/// command comes to failed. 4: a write on standard output failed. 5: a file was refused. 6: out of memory. 7: a file has
-/// more bytes than its limit.
+/// 0: done, and a run ended at a halt. 1: a run ended otherwise. 2: the words form no command. 3: a read of a file that
+/// the command needs failed. 4: a write on standard output failed. 5: a file was refused. 6: out of memory. 7: a file
+/// has more bytes than its limit.
 pub type Status = u8;
 
-/// The words behind the program's own name, in their order.
+/// The words after the program's own name, in their order.
 pub fn words_behind(alloc: Global, mut args: Args) -> Result<Vec<String>, AllocError>
     ensures { IfOk result (λ words. words.items ≡ drop 1 (into_iter_items args)) }
 {
@@ -35,7 +35,7 @@ pub fn words_behind(alloc: Global, mut args: Args) -> Result<Vec<String>, AllocE
     Ok(words)
 }
 
-/// Why the words of a call can't be had: out of memory, or a word that is no text.
+/// Why the words of a call can't be read: out of memory, or a word that isn't valid text.
 pub fn unreadable(error: &io::Error) -> StopReason<'static>
     ensures memory { (result ≡ Memory) ↔ (error_kind error.now ≡ ErrorKind.OutOfMemory) }
     ensures usage { (result ≡ Usage) ↔ (error_kind error.now ≢ ErrorKind.OutOfMemory) }
@@ -48,8 +48,8 @@ pub fn unreadable(error: &io::Error) -> StopReason<'static>
     }
 }
 
-/// Tells a stop on standard error, and gives its status. A write that fails there changes no status, and nothing is
-/// told of a write that failed on standard output.
+/// Reports a stop on standard error, and returns its status. A write that fails there changes no status. A failed write
+/// on standard output isn't reported.
 #[tactic(auto, using(crate::proofs::Told::told_whole, crate::proofs::Told::told_part))]
 pub fn report_stop<E: Sink>(stop: &StopReason<'_>, err: &mut E) -> Status
     ensures status { result ≡ status_of stop.now }

@@ -5,6 +5,6 @@
 pub enum Datapath {
     /// SEQ, whose state holds the PC.
     Seq,
-    /// SEQ+, which computes the PC as a cycle begins, from what the instruction before left.
+    /// SEQ+, which computes the PC at the beginning of a cycle, from what it stored of the instruction before.
     Plus,
 }

@@ -1,4 +1,5 @@
-//! The design stage: an HCL text, bound over a table, with an order of its signals; and names of rows as they are told.
+//! The design stage: reads an HCL text, binds it over a table, and finds an order of its signals; and names of rows for
+//! messages.
 ghost use Rattle.std.specs.Prelude.{◌≡◌, ◌≢◌, ◌++◌, ◌∷◌, [], Err, List, ℕ, IfOk, OnErr, OnOk, map};
 ghost use Rattle.dp_signals.specs.PipeTable.{pipe_rows};
 ghost use Rattle.hcl_types.specs.Tables.{IsSound, row_names};
@@ -44,7 +45,7 @@ fn reason(why: BindWhy) -> &'static [u8]
     }
 }
 
-/// Puts a blank and a name behind other names.
+/// Puts a blank and a name after other names.
 fn put_name(names: &mut Vec<u8>, name: &[u8]) -> Result<(), AllocError>
     ensures { OnOk result (names.new.items ≡ names.old.items ++ (32 ∷ name.now)) }
 {
@@ -57,7 +58,7 @@ fn put_name(names: &mut Vec<u8>, name: &[u8]) -> Result<(), AllocError>
     }
 }
 
-/// One name behind a blank.
+/// One name after a blank.
 fn one_name(alloc: Global, name: &[u8]) -> Result<Vec<u8>, AllocError>
     ensures { IfOk result (λ names. names.items ≡ text.blank_names (name.now ∷ [])) }
 {
@@ -76,7 +77,7 @@ fn name_at(rows: &[Row], id: u32) -> &[u8]
     }
 }
 
-/// The names of rows, each behind a blank.
+/// The names of rows, each after a blank.
 pub fn all_names(alloc: Global, rows: &[Row], ids: &[u32]) -> Result<Vec<u8>, AllocError>
     ensures { IfOk result (λ names. names.items ≡ text.blank_names (text.names_at (row_names rows.now) ids.now)) }
 {
@@ -120,7 +121,7 @@ fn cycle_stop<'a>(alloc: Global, name: &'a str, rows: &[Row], ids: &[u32]) -> St
     }
 }
 
-/// The design of an HCL text under a name, over a table, with an order of its signals.
+/// The design of an HCL text over a table, with an order of its signals. `name` is the file's name, for messages.
 #[tactic(auto, using(crate::proofs::Designs::unread, crate::proofs::Designs::unbound, crate::proofs::Designs::unordered, crate::proofs::Designs::ordered))]
 pub fn ordered_design<'a>(
     alloc: Global,
@@ -171,7 +172,8 @@ fn table_of<'a>(alloc: Global, which: Datapath) -> Result<Table, StopReason<'a>>
     }
 }
 
-/// The design of an HCL text under a name, over the table of a sequential datapath, with an order of its signals.
+/// The design of an HCL text over the table of a sequential datapath, with an order of its signals. `name` is the
+/// file's name, for messages.
 pub fn seq_design<'a>(
     alloc: Global,
     which: Datapath,
@@ -188,7 +190,7 @@ pub fn seq_design<'a>(
     ordered_design(alloc, name, source, table)
 }
 
-/// The design of an HCL text under a name, over PIPE's table, with an order of its signals.
+/// The design of an HCL text over PIPE's table, with an order of its signals. `name` is the file's name, for messages.
 pub fn pipe_design<'a>(
     alloc: Global,
     name: &'a str,
@@ -204,7 +206,7 @@ pub fn pipe_design<'a>(
     ordered_design(alloc, name, source, table)
 }
 
-/// The design of an HCL file over the table of a sequential datapath, with that and an order of its signals.
+/// The design of an HCL file over the table of a sequential datapath, with the table and an order of its signals.
 pub fn seq_file<'a, F: Files>(
     alloc: Global,
     which: Datapath,
@@ -221,7 +223,7 @@ pub fn seq_file<'a, F: Files>(
     }
 }
 
-/// The design of an HCL file over PIPE's table, with that and an order of its signals.
+/// The design of an HCL file over PIPE's table, with the table and an order of its signals.
 pub fn pipe_file<'a, F: Files>(
     alloc: Global,
     name: &'a str,

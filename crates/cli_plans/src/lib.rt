@@ -1,4 +1,5 @@
-//! Plans: what a call reads and may answer, whether its command kept to that, and the stages that commands share.
+//! Plans: which files a call reads and which answers it may give, proofs that its command followed the plan, and the
+//! stages that commands share.
 #![tactic(auto)]
 
 mod calls;

@@ -1,5 +1,5 @@
-//! The stages that commands share, each with one way to go on and its ways to stop: the bytes of a file, the tree of an HCL
-//! text, the image of an object text; and the status behind a run.
+//! The stages that commands share: the bytes of a file, the tree of an HCL text, the image of an object text. Each has
+//! one way to go on and its ways to stop. Also the status after a run.
 ghost use Rattle.std.specs.Prelude.{◌≡◌, ◌≤◌, List, ℕ, length, IfErr, IfOk};
 ghost use Rattle.hcl_read.specs.Read.{ReadsAs};
 ghost use Rattle.wb_io.specs.Files.{HasBytes};
@@ -18,13 +18,13 @@ use wb_io::{Files, ReadErr};
 use y86_base::{Image, Stat};
 use yo_object::{YoWhy, load};
 
-/// The most bytes that an object file or an assembly file has.
+/// The most bytes of an object file or an assembly file.
 pub const FILE_LIMIT: u64 = 1_048_576;
 
-/// The most bytes that an HCL file has.
+/// The most bytes of an HCL file.
 pub const HCL_LIMIT: u64 = 65_536;
 
-/// The bytes of a file that the words name.
+/// The bytes of a file with this name.
 pub fn read_file<'a, F: Files>(
     alloc: Global,
     name: &'a str,
@@ -44,7 +44,7 @@ pub fn read_file<'a, F: Files>(
     }
 }
 
-/// The name of the reader's reason.
+/// The name of a reason for which the HCL reader refuses a text.
 fn hcl_why(why: HclWhy) -> &'static [u8]
     ensures { result.now ≡ hcl_reason why }
 {
@@ -58,7 +58,7 @@ fn hcl_why(why: HclWhy) -> &'static [u8]
     }
 }
 
-/// The tree of an HCL text under a name.
+/// The tree of an HCL text. `name` is the file's name, for messages.
 #[tactic(auto, using(crate::proofs::Staged::hcl_refused))]
 pub fn read_hcl<'a>(alloc: Global, name: &'a str, text: &[u8]) -> Result<File, StopReason<'a>>
     ensures { IsStageResultIn (ReadsAs text.now) (RefusesHcl name.now text.now) (λ file. file) result }
@@ -79,7 +79,7 @@ pub fn read_hcl<'a>(alloc: Global, name: &'a str, text: &[u8]) -> Result<File, S
     }
 }
 
-/// The name of an object text's reason.
+/// The name of a reason for which an object text is refused.
 fn object_why(why: YoWhy) -> &'static [u8]
     ensures { result.now ≡ object_reason why }
 {
@@ -92,7 +92,7 @@ fn object_why(why: YoWhy) -> &'static [u8]
     }
 }
 
-/// The image of an object text under a name.
+/// The image of an object text. `name` is the file's name, for messages.
 #[tactic(auto)]
 pub fn load_image<'a>(
     alloc: Global,
@@ -118,7 +118,7 @@ pub fn load_image<'a>(
     }
 }
 
-/// 0 where a run ended at a halt, else 1.
+/// 0 if a run ended at a halt, otherwise 1.
 pub fn status(stat: Stat) -> u8
     ensures status { result ≡ run_status stat }
     ensures low { result ≤ 1 }

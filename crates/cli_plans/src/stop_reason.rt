@@ -15,13 +15,13 @@ pub enum InputFault {
         line: u64,
         why: &'static [u8],
     },
-    /// A place of it, counted from line 1 and column 1, has a fault.
+    /// A place in it, counted from line 1 and column 1, has a fault.
     AtPlace {
         line: u64,
         column: u64,
         why: &'static [u8],
     },
-    /// Some names in it have a fault; each stands behind a blank.
+    /// Names in it have a fault. Each has a blank before it.
     OfNames {
         why: &'static [u8],
         names: Vec<u8>,
@@ -31,7 +31,7 @@ pub enum InputFault {
 /// Why the program stopped before its work was done.
 #[derive(Debug, Drop)]
 pub enum StopReason<'a> {
-    /// The words are no command.
+    /// The words form no command.
     Usage,
     /// A read of the named file failed.
     Read(&'a str),
@@ -39,7 +39,7 @@ pub enum StopReason<'a> {
     Write,
     /// The named file was refused.
     Refused(&'a str, InputFault),
-    /// Want of memory.
+    /// Out of memory.
     Memory,
     /// The named file has more bytes than its limit.
     TooLong(&'a str, u64),
@@ -148,7 +148,7 @@ impl StopReason<'_> {
         }
     }
 
-    /// Writes the line of the stop on standard error; a failed write has none, and nothing is written for it.
+    /// Writes the line of the stop on standard error. A failed write on standard output has no line.
     pub fn put<E: Sink>(&self, err: &mut E) -> Result<(), Failed>
         ensures puts { AppendsText (E.taken err.old) (E.taken err.new) result (line_of self.now) }
         ensures counts { CountsFaults (E.faults err.old) (E.faults err.new) result }

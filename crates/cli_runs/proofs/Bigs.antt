@@ -1,4 +1,4 @@
--- What `big` answers.
+-- What `big` answers, from what the code did.
 use Rattle.std.proofs.Common.{◌≡◌, ℕ, ◌≤◌, List, refl}
 use Rattle.wb_io.specs.Causes.{counted}
 use Rattle.wb_io.specs.Sinks.{Appended, AppendedPrefix}

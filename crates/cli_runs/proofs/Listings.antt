@@ -1,4 +1,4 @@
--- What the text of an assembly file gives.
+-- The result of assembling a file: its object text, or a refusal.
 use Rattle.std.proofs.Common.{◌≡◌, ◌≢◌, ℕ, List, refl, inl, inr, Ok, Err, Vec}
 use Rattle.std.specs.Borrow.{Bor}
 use Rattle.std.specs.Global.{Global}
@@ -15,14 +15,14 @@ use Rattle.cli_runs.specs.Answers.{text_of_listing}
 use Rattle.cli_plans.specs.PlanFollowing.{IsStageResult}
 use Rattle.cli_plans.specs.Lines.{assembly_reason}
 
--- a source that is refused has the fault that is defined
+-- a source that the code refuses has the fault of the definition
 pub source_refused : (v : Variant) (name why : Bor (List ℕ)) (source : List ℕ) (size : ℕ) (fault : AsmFault) → fault.why ≢ assembly.Memory →
     assembler.GivesOrFaults lines_of (Err fault) (assembled v source size) → why.now ≡ assembly_reason fault.why →
     IsStageResult (λ (text : Vec ℕ Global). text.items) (text_of_listing name.now source (assembled v source size)) (Err (Refused name (AtLine fault.line why)))
 source_refused v name why source size fault other (inl memory) reason = absurd (other memory.0)
 source_refused v name why source size fault other (inr said) reason = inr (refl, rw (said, reason) refl)
 
--- a source that is accepted has the printed text of its listing
+-- a source that the code accepts has the printed text of its listing
 pub source_listed : (v : Variant) (name source : List ℕ) (size : ℕ) (listing : Listed) (text : Vec ℕ Global) → assembler.GivesOrFaults lines_of (Ok listing) (assembled v source size) →
     listing.source ≡ source → text.items ≡ printed listing → text_of_listing name source (assembled v source size) ≡ Ok text.items
 source_listed v name source size listing text said same printed_is =

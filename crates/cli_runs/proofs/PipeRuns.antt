@@ -1,4 +1,5 @@
--- What a run of PIPE answers: a drive is a run of the definition, and a drive that a failed write broke off could have gone on to one.
+-- What a run of PIPE answers: the code's drive is a run of the definition, and a drive that stopped at a failed write
+-- could have been continued to one.
 use Rattle.std.proofs.Common.{◌≡◌, ℕ, zero, suc, ◌+◌, ◌-◌, ◌<◌, ◌≤◌, Bool, true, false, List, [], ◌∷◌, ◌++◌, length, replicate, Option, refl, sym, ap, subst, ◌∙◌, arith, length-append, append_assoc}
 use Rattle.std.proofs.lemmas.List.{append-nil}
 use Rattle.std.proofs.Math.Seq.{take-append-add}
@@ -78,7 +79,7 @@ goes_on v terms ids image bound ordered (suc n) limit k p sum goes =
           behind = on.behind ∙ append_assoc p.records (option_to_list (retires p.state f)) on.rest;
         }
 
--- ---- what was said
+-- ---- the output
 
 texts_same : (trace : Bool) (image first : List ℕ) (q : pipe.PipeMachine) (last : Machine) (d : Drove) (records : List Rec) → first ≡ image → last ≡ pipe.end_of q →
     d.retired ≡ length records →
@@ -114,7 +115,7 @@ pipe_part v terms order image limit trace m q d records first last before after 
   one_fault = one_fault;
 }
 
--- the trace of some records, of one more, and of the rest
+-- the trace of some records, of another record, and of the rest
 traced_parts : (records rest : List Rec) (last : Rec) (more : List ℕ) →
     ((drive.traced true records ++ trace_line last) ++ drive.traced true rest) ++ more ≡ drive.traced true ((records ++ last ∷ []) ++ rest) ++ more
 traced_parts records rest last more =
@@ -146,7 +147,7 @@ pipe_broken v terms order image bound ordered limit trace m q before after k rec
       one_fault = one_fault;
     }
 
--- ---- behind the text of a verdict
+-- ---- after the text of a verdict
 
 pub behind_whole : (v : Variant) (terms : List Term) (limit : ℕ) (trace : Bool) (verdict image : List ℕ) (before between after : SinkState) (status : ℕ) →
     Appended before.taken between.taken verdict → between.faults ≡ before.faults → WroteWhole (PipeAnswers v terms limit trace [] image) between after status →
@@ -171,7 +172,7 @@ behind_part v terms limit trace verdict image before between after told no_fault
   one_fault = s.one_fault ∙ ap counted no_fault;
 }
 
--- the verdict itself broke off
+-- the write of the verdict itself failed
 pub verdict_broken : (v : Variant) (terms : List Term) (order image : List ℕ) → IsBound pipe_rows terms → IsOrderOf pipe_rows terms order →
     (limit : ℕ) (trace : Bool) (verdict : List ℕ) (before after : SinkState) → AppendedPrefix before.taken after.taken verdict →
     after.faults ≡ counted before.faults → WrotePart (PipeAnswers v terms limit trace verdict image) before after

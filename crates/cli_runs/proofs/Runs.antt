@@ -18,7 +18,7 @@ use Rattle.seq_path.proofs.Runs.{calls_are_the_run}
 pub run_keeps_size : (v : Variant) (m after : Machine) (n : ℕ) → after ≡ run_from v m n → length m.mem ≡ length after.mem
 run_keeps_size v m after n e = rw (e, length-run_from) refl
 
--- a run of SEQ keeps it too
+-- so does a run of SEQ
 cycle_keeps : (v : Variant) (terms : List Term) (s : Machine) (r : Option Rec) (t : Machine) → IsSeqCycle v terms s r t → length t.mem ≡ length s.mem
 cycle_keeps v terms s r t c = at (is_aok s.stat) refl
   where

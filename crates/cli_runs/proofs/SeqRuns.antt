@@ -1,4 +1,4 @@
--- What a run of SEQ answers.
+-- What a run of SEQ answers, from what the code did.
 use Rattle.std.proofs.Common.{◌≡◌, ℕ, ◌≤◌, List, length, refl, sym, ap, subst, ◌∙◌}
 use Rattle.wb_io.specs.Causes.{counted}
 use Rattle.wb_io.specs.Sinks.{Appended, AppendedPrefix}

@@ -1,4 +1,4 @@
--- What each command that reads or runs a program answers, and `hcl`, as a plan.
+-- What each command that prints or runs a file answers, as a plan.
 use Rattle.std.specs.Prelude.{◌≡◌, ℕ, Bool, true, false, List, [], ◌++◌, length, Result, Ok, Err}
 use Rattle.dp_signals.specs.PipeRun.{PipeHistory}
 use Rattle.dp_signals.specs.PipeTable.{pipe_rows}
@@ -35,12 +35,12 @@ unfoldable pub yis_run : Variant → List ℕ → ℕ → Answer
 yis_run v image limit =
     done (run_status (run v image limit).stat) (report image (run v image limit) (length (records v image limit)))
 
--- the answers to the run of an image on a sequential datapath under a design: a step of the report is a record
+-- the answers to the run of an image on a sequential datapath under a design: the steps of the report are its records
 abbrev pub SeqAnswers : Datapath → Variant → List Term → ℕ → List ℕ → Answer → Type 0
 SeqAnswers which v terms limit image a =
     (end : Machine) × (records : List Rec) × IsMachineRun which v terms image limit end records × (a ≡ done (run_status end.stat) (report image end (length records)))
 
--- the answers to the run of an image on PIPE under a design, behind the text of a verdict
+-- the answers to the run of an image on PIPE under a design, after the text of a verdict
 abbrev pub PipeAnswers : Variant → List Term → ℕ → Bool → List ℕ → List ℕ → Answer → Type 0
 PipeAnswers v terms limit trace verdict image a =
     (cycles : ℕ) × (end : PipeHistory) × RunsTo v terms image limit cycles end × (a ≡ done (run_status end.end) (verdict ++ run_text trace image cycles end))
@@ -67,12 +67,12 @@ unfoldable pub ssim_plan : Datapath → List ℕ → List ℕ → ℕ → ℕ �
 ssim_plan which name object size limit v =
     reads name hcl_limit (λ text. value_in (IsDesign (rows_of which) text) (RefusesDesign name (rows_of which) text) (λ terms. seq_plan which terms object size limit v))
 
--- the run of an object file on PIPE under a design, behind the text of a verdict
+-- the run of an object file on PIPE under a design, after the text of a verdict
 unfoldable pub pipe_plan : List ℕ → List Term → List ℕ → ℕ → ℕ → Bool → Variant → Plan
 pipe_plan verdict terms object size limit trace v =
     reads object file_limit (λ bytes. value_from (image_of_text object (object_of bytes size)) (λ image. answer_in (PipeAnswers v terms limit trace verdict image)))
 
--- the same where a check may be asked for: then only behind a Yes, which is printed first
+-- the same if a check may be asked for: then it runs only after a `yes`, which is printed first
 unfoldable pub checked_plan : List ℕ → List Term → List ℕ → ℕ → ℕ → Bool → Bool → Variant → Plan
 checked_plan name terms object size limit trace false v = pipe_plan [] terms object size limit trace v
 checked_plan name terms object size limit trace true v =

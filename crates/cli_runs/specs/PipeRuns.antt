@@ -1,4 +1,4 @@
--- Runs of PIPE to their end or to a limit of cycles, and the text that tells of one.
+-- Runs of PIPE to their end or to a limit of cycles, and the output for a run.
 use Rattle.std.specs.Prelude.{ℕ, Bool, codes, List, [], ◌∷◌, ◌++◌, length}
 use Rattle.std.specs.List.{concat}
 use Rattle.y86_base.specs.Numeral.{numeral}
@@ -12,7 +12,7 @@ unfoldable pub ran_line : ℕ → ℕ → List ℕ
 ran_line cycles retired =
     concat (codes "Ran " ∷ numeral 10 1 cycles ∷ codes " cycles, retired " ∷ numeral 10 1 retired ∷ codes " instructions\n" ∷ [])
 
--- a run: the trace, where it is asked for, the counts, and the report, a step of which is a record
+-- the output for a run: the trace, if it is asked for, the counts, and the report, whose steps are the records
 abbrev pub run_text : Bool → List ℕ → ℕ → PipeHistory → List ℕ
 run_text trace image cycles p =
     traced trace p.records ++ (ran_line cycles (length p.records) ++ report image (end_of p) (length p.records))

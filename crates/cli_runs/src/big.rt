@@ -40,7 +40,7 @@ fn put_big<O: Sink>(n: u64, both: &CosimResult, out: &mut O) -> Result<(), Faile
     )
 }
 
-/// The status of both runs.
+/// The exit status for both runs.
 fn status_of_both(both: &CosimResult) -> u8
     ensures status { result ≡ big_status both.now }
     ensures low { result ≤ 1 }

@@ -54,9 +54,9 @@ fn put_end<O: Sink>(drove: Drove, first: &Image, end: &End<'_>, out: &mut O) -> 
     report(first, end, drove.retired, out)
 }
 
-/// Writes the text of a verdict, runs an image on PIPE, with a trace where it is asked for, and writes the counts and the
-/// report. All memory is taken before anything is written. The loop has a function of its own, and so all registers of the
-/// processor.
+/// Writes the text of a verdict, runs an image on PIPE, with a trace if it is asked for, and writes the counts and the
+/// report. All memory is allocated before anything is written. The loop has a function of its own, so that it can use
+/// all registers of the processor.
 #[inline(never)]
 pub fn run_pipe<'a, O: Sink>(
     alloc: Global,
@@ -94,7 +94,7 @@ pub fn run_pipe<'a, O: Sink>(
     }
 }
 
-/// Reads an object file and runs it on PIPE under a design, behind the text of a verdict.
+/// Reads an object file and runs it on PIPE under a design, after the text of a verdict.
 fn run_object<'a, F: Files, O: Sink>(
     alloc: Global,
     request: PipeRequest<'a>,
@@ -122,8 +122,8 @@ fn run_object<'a, F: Files, O: Sink>(
     run_pipe(alloc, request, ordered, image, verdict, out)
 }
 
-/// Reads an object file and runs it on PIPE under a design. Where a check is asked for, the design is checked first; behind
-/// a No nothing is read or run.
+/// Reads an object file and runs it on PIPE under a design. If a check is asked for, the design is checked first; after
+/// a `no` nothing is read or run.
 fn run_checked<'a, F: Files, O: Sink>(
     alloc: Global,
     request: PipeRequest<'a>,
@@ -150,7 +150,7 @@ fn run_checked<'a, F: Files, O: Sink>(
     }
 }
 
-/// `psim`: runs an object file on PIPE under an HCL file, which is checked first where that is asked for.
+/// `psim`: runs an object file on PIPE under an HCL file, which is checked first if that is asked for.
 pub fn psim_file<'a, F: Files, O: Sink>(
     alloc: Global,
     request: PipeRequest<'a>,

@@ -1,4 +1,4 @@
-//! What a call asks for that runs an object file.
+//! The parameters of the calls that run an object file.
 use y86_base::Variant;
 
 /// A run of an object file.
@@ -14,7 +14,7 @@ pub struct RunRequest<'a> {
     pub variant: Variant,
 }
 
-/// A run on PIPE under an HCL file, as a call of `psim` asks for it.
+/// A run on PIPE under an HCL file: the parameters of `psim`.
 #[derive(Clone, Copy, Debug)]
 pub struct PipeRequest<'a> {
     /// The name of the HCL file.
@@ -22,6 +22,6 @@ pub struct PipeRequest<'a> {
     pub run: RunRequest<'a>,
     /// Whether a line is printed for each instruction that retires.
     pub trace: bool,
-    /// Whether the HCL file is checked first, and run only where it is accepted.
+    /// Whether the HCL file is checked first, and run only if it is accepted.
     pub checked: bool,
 }

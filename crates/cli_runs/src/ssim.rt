@@ -22,8 +22,8 @@ use wb_io::{Files, Sink};
 use y86_base::{Image, Variant};
 use yis_run::{End, report};
 
-/// Runs an image on SEQ and writes the report. All memory is taken before the first cycle. The loops of SEQ and SEQ+ are functions
-/// of their own, so that each has all registers of the processor.
+/// Runs an image on SEQ and writes the report. All memory is allocated before the first cycle. The loops of SEQ and
+/// SEQ+ are separate functions, so that each can use all registers of the processor.
 #[inline(never)]
 fn run_seq<'a, O: Sink>(
     alloc: Global,
@@ -52,7 +52,7 @@ fn run_seq<'a, O: Sink>(
     }
 }
 
-/// Runs an image on SEQ+ and writes the report. All memory is taken before the first cycle.
+/// Runs an image on SEQ+ and writes the report. All memory is allocated before the first cycle.
 #[inline(never)]
 fn run_plus<'a, O: Sink>(
     alloc: Global,

@@ -12,7 +12,7 @@ use y86_base::Variant;
 use yas_asm::{AsmWhy, assemble};
 use yo_object::print;
 
-/// The name of an assembler's reason.
+/// The name of a reason for which the assembler refuses a source.
 fn reason(why: AsmWhy) -> &'static [u8]
     ensures { result.now ≡ assembly_reason why }
 {
@@ -29,7 +29,7 @@ fn reason(why: AsmWhy) -> &'static [u8]
     }
 }
 
-/// The object text of a source under a name.
+/// The object text of a source. `name` is the file's name, for messages.
 #[tactic(auto, using(crate::proofs::Listings::source_refused, crate::proofs::Listings::source_listed))]
 fn object_text<'a>(
     alloc: Global,

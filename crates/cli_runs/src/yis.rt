@@ -12,7 +12,7 @@ use y86_base::{Image, Variant};
 use y86_isa::Machine;
 use yis_run::{End, report, run};
 
-/// Runs an image and writes the report. All memory is taken before the first step.
+/// Runs an image and writes the report. All memory is allocated before the first step.
 #[tactic(auto, unfolding(crate::specs::Answers::yis_run))]
 fn run_image<'a, O: Sink>(
     alloc: Global,

@@ -1,4 +1,4 @@
-//! The kinds of faults of HCL, assembly and object text in sentences, each with an example and its mend.
+//! The kinds of faults of HCL, assembly and object text in sentences, each with an example and its correction.
 
 /// A kind of fault: its stable code, what is wrong, a text that has it, and the text without it.
 /// The texts are empty if there is no short one.

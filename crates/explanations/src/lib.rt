@@ -1,4 +1,4 @@
-//! What `y86-tell` says of obligations, signals, instructions and kinds of faults, as data.
+//! What `y86-tell` prints about obligations, signals, instructions and kinds of faults, as data.
 #![tactic(auto)]
 
 mod faults;

@@ -8,7 +8,7 @@ pub struct Obligation {
     pub group: &'static str,
     /// What it is about, in a few words.
     pub brief: &'static str,
-    /// The signals that it is about, each followed by a blank but the last.
+    /// The signals that it is about, separated by blanks.
     pub signals: &'static str,
     pub demand: &'static str,
     pub reason: &'static str,
@@ -354,7 +354,7 @@ static SEQ_FIRST: [Obligation; 7] = [
     },
 ];
 
-/// The others of SEQ, S8 to S16. All but the last one are those of SEQ+ too.
+/// The other obligations of SEQ, S8 to S16. All but the last are also obligations of SEQ+.
 static SEQ_LAST: [Obligation; 9] = [
     Obligation {
         label: "S8",
@@ -450,7 +450,7 @@ static SEQ_PLUS_LAST: [Obligation; 1] = [Obligation {
     book: "section 4.5.1",
 }];
 
-/// The obligation with this place in a group whose first one has this number.
+/// The obligation with this number, in a group whose first obligation has the number `first`.
 fn from(group: &'static [Obligation], first: usize, number: usize) -> Option<&'static Obligation> {
     group.get(number.wrapping_sub(first))
 }

@@ -368,7 +368,8 @@ fn find(stage: &'static str, signals: &'static [Signal], name: &str) -> Option<S
 /// The number of groups of signals.
 pub const GROUP_COUNT: usize = 12;
 
-/// A group of signals: its stage, and the signals. The first six are PIPE's. The others only SEQ or SEQ+ has.
+/// A group of signals: its stage, and the signals. The first six groups are PIPE's; the others have the signals that
+/// only SEQ or SEQ+ has.
 pub fn signal_group(number: usize) -> (&'static str, &'static [Signal]) {
     match number {
         0 => ("fetch", &PIPE_FETCH),
@@ -387,7 +388,8 @@ pub fn signal_group(number: usize) -> (&'static str, &'static [Signal]) {
     }
 }
 
-/// The signal with this name that a file defines or a block gives. Fields of pipeline registers have no entry.
+/// The signal with this name that a file defines or a hardware block computes. Fields of pipeline registers have no
+/// entry.
 pub fn signal_named(name: &str) -> Option<Staged>
     ensures { IfSome result (λ found. found.signal.now.name.now ≡ name.now) }
 {

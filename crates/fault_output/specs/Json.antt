@@ -1,4 +1,4 @@
--- A report of faults as a JSON object (RFC 8259) in one line.
+-- A report of faults as a JSON object (RFC 8259) on one line.
 use Rattle.std.specs.Prelude.{ℕ, ◌==◌, nat_le, Bool, true, false, ◌||◌, ◌&&◌, codes, List, [], ◌∷◌, ◌++◌, Option, None, Some, if◌then◌else◌}
 use Rattle.std.specs.Borrow.{Bor}
 use Rattle.y86_base.specs.Numeral.{numeral}
@@ -8,7 +8,8 @@ use Rattle.fault_report.specs.declared.facts.Fault.{Fault}
 use Rattle.fault_report.specs.declared.facts.Related.{Related}
 use Rattle.fault_report.specs.declared.facts.Report.{Report}
 
--- A byte of a string: a quotation mark (34) and a backslash (92) have a backslash before them, and what is no printable ASCII is `\u` with four hex digits.
+-- A byte of a string: a quotation mark (34) and a backslash (92) have a backslash before them, and any byte that isn't
+-- printable ASCII is `\u` with four hex digits.
 abbrev pub char_text : ℕ → List ℕ
 char_text byte =
     if byte == 34 || byte == 92
@@ -22,7 +23,7 @@ chars_text (byte ∷ bytes) = char_text byte ++ chars_text bytes
 unfoldable pub string_text : List ℕ → List ℕ
 string_text bytes = codes "\"" ++ chars_text bytes ++ codes "\""
 
--- what parts an element from the one before it
+-- what separates an element from the one before it
 abbrev pub comma : Bool → List ℕ
 comma is_first = if is_first then [] else codes ", "
 
@@ -31,7 +32,7 @@ abbrev pub strings_text : Bool → List (Bor (List ℕ)) → List ℕ
 strings_text is_first [] = []
 strings_text is_first (x ∷ xs) = comma is_first ++ string_text x.now ++ strings_text false xs
 
--- another place that a fault speaks of
+-- another place that a fault refers to
 unfoldable pub place_text : Related → List ℕ
 place_text place =
     codes "{\"role\": " ++ string_text place.role.now
@@ -54,11 +55,11 @@ related_text places = codes ", \"related\": [" ++ places_text true places ++ cod
 unfoldable pub where_text : Fault → List ℕ
 where_text fault = codes "{\"line\": " ++ numeral 10 1 fault.line ++ codes ", \"column\": " ++ numeral 10 1 fault.column
 
--- of which kind it is
+-- what kind of fault it is
 unfoldable pub kind_text : Fault → List ℕ
 kind_text fault = codes ", \"code\": " ++ string_text fault.code.now ++ codes ", \"reason\": " ++ string_text fault.reason.now
 
--- what is said of it
+-- the sentence on it
 unfoldable pub said_text : Fault → List ℕ
 said_text fault = codes ", \"sentence\": " ++ string_text fault.sentence ++ codes ", \"found\": " ++ string_text fault.found
 
@@ -69,7 +70,7 @@ abbrev pub faults_text : Bool → List Fault → List ℕ
 faults_text is_first [] = []
 faults_text is_first (x ∷ xs) = comma is_first ++ fault_text x ++ faults_text false xs
 
--- the datapath, where the report has one
+-- the datapath, if the report has one
 abbrev pub datapath_text : Option Datapath → List ℕ
 datapath_text None = []
 datapath_text (Some datapath) = codes ", \"datapath\": " ++ string_text (datapath_name datapath)

@@ -3,7 +3,7 @@ use Rattle.std.specs.Prelude.{ℕ, ◌==◌, codes, List, [], ◌∷◌, ◌++�
 use Rattle.y86_base.specs.Numeral.{numeral}
 use Rattle.fault_report.specs.declared.facts.Fault.{Fault}
 
--- a line or a column, with a colon behind it; nothing where there is none
+-- a line or a column, followed by a colon; nothing if there is none
 unfoldable pub place_text : ℕ → List ℕ
 place_text number = if number == 0 then [] else numeral 10 1 number ++ codes ":"
 

@@ -1,5 +1,5 @@
-//! A report as JSON (RFC 8259), in one line. Bytes that are no printable ASCII are escaped as the characters of their
-//! numbers.
+//! Writes a report as JSON (RFC 8259), on one line. Bytes that aren't printable ASCII are escaped as the characters
+//! with their numbers.
 ghost use Rattle.std.specs.Prelude.{◌≡◌, ◌++◌, codes, true, IfOk, OnOk};
 ghost use Rattle.y86_base.specs.Numeral.{numeral};
 ghost use Rattle.fault_output.specs.Json as spec;
@@ -39,7 +39,7 @@ fn put_string(out: &mut Vec<u8>, bytes: &[u8]) -> Result<(), Memory>
     put_bytes(out, b"\"")
 }
 
-/// Adds a member of an object whose value is a string. The name has what is in front of it.
+/// Adds a member of an object whose value is a string. `name` includes the punctuation in front of it.
 fn put_text(out: &mut Vec<u8>, name: &[u8], bytes: &[u8]) -> Result<(), Memory>
     ensures { OnOk result (out.new.items ≡ out.old.items ++ name.now ++ spec.string_text bytes.now) }
 {
@@ -47,7 +47,7 @@ fn put_text(out: &mut Vec<u8>, name: &[u8], bytes: &[u8]) -> Result<(), Memory>
     put_string(out, bytes)
 }
 
-/// Adds a member of an object whose value is a number.
+/// Adds a member of an object whose value is a number. `name` includes the punctuation in front of it.
 fn put_number(out: &mut Vec<u8>, name: &[u8], number: u64) -> Result<(), Memory>
     ensures { OnOk result (out.new.items ≡ out.old.items ++ name.now ++ numeral 10 1 number) }
 {
@@ -55,7 +55,7 @@ fn put_number(out: &mut Vec<u8>, name: &[u8], number: u64) -> Result<(), Memory>
     put_decimal(out, number)
 }
 
-/// Adds what parts two elements.
+/// Adds what separates two elements.
 fn put_comma(out: &mut Vec<u8>, is_first: bool) -> Result<(), Memory>
     ensures { OnOk result (out.new.items ≡ out.old.items ++ spec.comma is_first) }
 {
@@ -127,7 +127,7 @@ fn put_where(out: &mut Vec<u8>, fault: &Fault) -> Result<(), Memory>
     put_number(out, b", \"column\": ", fault.column)
 }
 
-/// Adds of which kind a fault is.
+/// Adds the kind of a fault.
 #[tactic(auto, unfolding(crate::specs::Json::kind_text))]
 fn put_kind(out: &mut Vec<u8>, fault: &Fault) -> Result<(), Memory>
     ensures { OnOk result (out.new.items ≡ out.old.items ++ spec.kind_text fault.now) }
@@ -136,7 +136,7 @@ fn put_kind(out: &mut Vec<u8>, fault: &Fault) -> Result<(), Memory>
     put_text(out, b", \"reason\": ", fault.reason)
 }
 
-/// Adds what is said of a fault.
+/// Adds the sentence on a fault.
 #[tactic(auto, unfolding(crate::specs::Json::said_text))]
 fn put_said(out: &mut Vec<u8>, fault: &Fault) -> Result<(), Memory>
     ensures { OnOk result (out.new.items ≡ out.old.items ++ spec.said_text fault.now) }
@@ -177,7 +177,7 @@ fn put_faults(out: &mut Vec<u8>, faults: &[Fault]) -> Result<(), Memory>
     put_bytes(out, b"]")
 }
 
-/// Adds the datapath, where there is one.
+/// Adds the datapath, if there is one.
 fn put_datapath(out: &mut Vec<u8>, datapath: Option<Datapath>) -> Result<(), Memory>
     ensures { OnOk result (out.new.items ≡ out.old.items ++ spec.datapath_text datapath) }
 {
@@ -187,8 +187,8 @@ fn put_datapath(out: &mut Vec<u8>, datapath: Option<Datapath>) -> Result<(), Mem
     }
 }
 
-/// A report as a JSON object with a line feed behind it: `file`, `datapath` where there is one, and `faults`, each with
-/// `line`, `column`, `code`, `reason`, `sentence`, `found`, `expected` and `related`.
+/// A report as a JSON object and a line feed: `file`, `datapath` if there is one, and `faults`, each with `line`,
+/// `column`, `code`, `reason`, `sentence`, `found`, `expected` and `related`.
 #[tactic(auto, unfolding(crate::specs::Json::report_json))]
 pub fn report_json(alloc: Global, file: &[u8], report: &Report) -> Result<Vec<u8>, Memory>
     ensures { IfOk result (λ text. text.items ≡ spec.report_json file.now report.now) }

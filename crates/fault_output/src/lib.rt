@@ -1,4 +1,4 @@
-//! A report of faults as lines of text, and as JSON with stable names.
+//! Writes a report of faults as lines of text, and as JSON with stable names.
 #![tactic(auto)]
 
 mod json;

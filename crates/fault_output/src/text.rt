@@ -1,4 +1,4 @@
-//! A report as lines of text.
+//! Writes a report as lines of text, in the form `FILE:LINE:COLUMN: SENTENCE`.
 ghost use Rattle.std.specs.Prelude.{◌≡◌, ◌++◌, IfOk, OnOk};
 ghost use Rattle.fault_output.specs.Lines as spec;
 
@@ -6,7 +6,7 @@ use fault_report::{Fault, Report, put_bytes, put_decimal};
 use std::alloc::Global;
 use y86_base::Memory;
 
-/// Adds a line or a column, where there is one.
+/// Adds a line or a column, if there is one.
 #[tactic(auto, unfolding(crate::specs::Lines::place_text))]
 fn put_place(out: &mut Vec<u8>, number: u64) -> Result<(), Memory>
     ensures { OnOk result (out.new.items ≡ out.old.items ++ spec.place_text number) }
@@ -40,7 +40,7 @@ fn put_fault(out: &mut Vec<u8>, file: &[u8], fault: &Fault) -> Result<(), Memory
     put_bytes(out, b"\n")
 }
 
-/// A line for each fault: `FILE:LINE:COLUMN: SENTENCE`, without the column or the line where there is none.
+/// A line for each fault: `FILE:LINE:COLUMN: SENTENCE`. The column or the line is left out if there is none.
 pub fn report_text(alloc: Global, file: &[u8], report: &Report) -> Result<Vec<u8>, Memory>
     ensures { IfOk result (λ text. text.items ≡ spec.report_lines file.now report.now.faults) }
 {

@@ -1,4 +1,4 @@
--- Lists of faults that have one on a line.
+-- Lists of faults that have a fault on a given line.
 use Rattle.std.proofs.Common.{◌≡◌, ◌<◌, ◌++◌, ◌∷◌, [], ℕ, List, get_or, length}
 use Rattle.std.proofs.lemmas.List.Elements.{Contains-push}
 use Rattle.std.proofs.lemmas.List.Sorted.{Contains-permutation}

@@ -11,7 +11,7 @@ pub record IsTold (line : ℕ) (faults : List Fault) : Type 0 where
   pub there : Contains faults fault
   pub place : fault.line ≡ line
 
--- None where the source is accepted. Else the line for which the assembler refuses it is among the lines that are reported.
+-- no fault if the source is accepted; otherwise the line for which the assembler refuses it is among the reported lines
 abbrev pub Reports : Result (List Line) AsmFault → List Fault → Type 0
 Reports (Ok lines) faults = faults ≡ []
 Reports (Err first) faults = IsTold first.line faults

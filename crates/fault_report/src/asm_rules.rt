@@ -1,10 +1,10 @@
-//! The sentences on lines that are no assembly, as data: what the grammar wants, what was found, behind which mnemonic.
-//! The first rule whose tests all hold says the sentence.
+//! The sentences on faulty lines of assembly, as data. They depend on what the grammar requires, what was found, and
+//! after which mnemonic. The first rule whose tests all hold gives the sentence.
 use crate::asm_tests::{AsmTest, Form};
 use asm_faults::Part;
 use yas_asm::AsmWhy;
 
-/// A sentence, and when it is said.
+/// A sentence, and the tests under which it is printed.
 pub struct AsmRule {
     pub when: &'static [AsmTest],
     pub code: &'static [u8],
@@ -65,7 +65,7 @@ static WHOLE_TEXT: [AsmRule; 5] = [
     },
 ];
 
-/// Faults that the other lines make.
+/// Faults that depend on other lines.
 fn whole_text() -> &'static [AsmRule] {
     &WHOLE_TEXT
 }
@@ -397,7 +397,7 @@ static REGISTER_OPERANDS: [AsmRule; 5] = [
     },
 ];
 
-/// What is no register.
+/// Operands that are no registers.
 fn register_operands() -> &'static [AsmRule] {
     &REGISTER_OPERANDS
 }
@@ -658,7 +658,7 @@ static NUMBERS: [AsmRule; 5] = [
     },
 ];
 
-/// Numbers of directives.
+/// Numbers after directives.
 fn numbers() -> &'static [AsmRule] {
     &NUMBERS
 }
@@ -700,7 +700,7 @@ static LINE_ENDS: [AsmRule; 4] = [
     },
 ];
 
-/// What is behind a statement.
+/// What follows a statement.
 fn line_ends() -> &'static [AsmRule] {
     &LINE_ENDS
 }
@@ -733,7 +733,7 @@ fn last() -> &'static [AsmRule] {
     &LAST
 }
 
-/// The rules in groups, in the order in which they are tried; None behind the last group.
+/// The rules in groups, in the order in which they are tried; `None` after the last group.
 pub fn asm_rules(group: usize) -> Option<&'static [AsmRule]> {
     match group {
         0 => Some(limits()),

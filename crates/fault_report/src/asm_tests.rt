@@ -1,4 +1,4 @@
-//! What the sentences on assembly depend on, as tests of the place at which a line is no longer of the form.
+//! What the sentences on assembly depend on, as tests of the place at which a line stops being well-formed.
 use asm_faults::Part;
 use yas_asm::AsmWhy;
 
@@ -19,13 +19,13 @@ pub enum Form {
     Unread,
 }
 
-/// A test of the place at which a line is no longer of the form.
+/// A test of the place at which a line stops being well-formed.
 pub enum AsmTest {
-    /// The reason of the line.
+    /// The line was refused for this reason.
     Refused(AsmWhy),
-    /// What the grammar wants there.
+    /// The grammar requires one of these parts there.
     Wants(&'static [Part]),
-    /// The operands are those of one of these.
+    /// The operands have one of these forms.
     Of(&'static [Form]),
     /// The line ends there.
     AtEnd,
@@ -37,7 +37,7 @@ pub enum AsmTest {
     IsCapital,
     /// The word there is a register with `%` in front of it.
     IsNakedRegister,
-    /// The word there has a mnemonic, a directive or the end of the line behind it.
+    /// The word there is followed by a mnemonic, a directive or the end of the line.
     IsLabelLike,
     /// The text there begins with a digit.
     BeginsDigit,

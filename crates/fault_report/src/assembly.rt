@@ -21,7 +21,7 @@ use yas_asm::{
     mnemonics, read_line,
 };
 
-/// What the tests of a rule ask about.
+/// The facts that the tests of a rule need.
 #[derive(Clone, Copy)]
 struct LineScene<'a> {
     variant: Variant,
@@ -49,7 +49,7 @@ fn form_of(shape: Shape) -> Form {
     }
 }
 
-/// The same of a directive.
+/// The same for a directive.
 fn form_of_directive(directive: Directive) -> Form {
     match directive {
         Directive::Position => Form::Position,
@@ -58,7 +58,7 @@ fn form_of_directive(directive: Directive) -> Form {
     }
 }
 
-/// The operands of a form, with a blank in front.
+/// How the operands of a form are written, with a blank in front.
 fn usage(form: Form) -> &'static [u8] {
     match form {
         Form::Alone => b"",
@@ -75,7 +75,7 @@ fn usage(form: Form) -> &'static [u8] {
     }
 }
 
-/// The name of a part, as it is told.
+/// The name of a part in messages.
 fn part_name(wanted: Part) -> &'static [u8] {
     match wanted {
         Part::Statement => b"a mnemonic or a directive",
@@ -91,17 +91,17 @@ fn part_name(wanted: Part) -> &'static [u8] {
     }
 }
 
-/// Whether a byte may begin a word: that of a register, a directive, a number or a name.
+/// Whether a byte may begin a word: a register, a directive, a number or a name.
 fn begins_name(byte: u8) -> bool {
     byte == b'%' || byte == b'.' || byte == b'$' || byte == b'-' || is_name_byte(byte)
 }
 
-/// How many bytes of a word are behind its first.
+/// The number of bytes of a word after its first.
 fn word_length(bytes: &[u8]) -> usize {
     bytes.iter().take_while(|byte| is_name_byte(**byte)).count()
 }
 
-/// The word in front of a text without blanks: a name with what is in front of it, or one byte.
+/// The first word of a text without leading blanks: a name with what is in front of it, or one byte.
 fn word_at(text: &[u8]) -> &[u8] {
     match text.split_first() {
         None => text,
@@ -132,7 +132,7 @@ fn lower(byte: u8) -> u8 {
     }
 }
 
-/// Whether a text is another one but for capital letters, of which it has one at least.
+/// Whether a text differs from another in nothing but capital letters, of which it has at least one.
 fn differs_in_capitals(text: &[u8], other: &[u8]) -> bool {
     if text.len() != other.len() {
         return false;
@@ -154,7 +154,7 @@ fn differs_in_capitals(text: &[u8], other: &[u8]) -> bool {
     has_capital
 }
 
-/// Whether a text is one of some fixed ones but for capital letters.
+/// Whether a text differs from one of a table's in nothing but capital letters.
 fn is_capital_of<T: Copy>(rows: &[Keyword<T>], text: &[u8]) -> bool {
     for row in rows {
         if differs_in_capitals(text, row.text) {
@@ -164,14 +164,14 @@ fn is_capital_of<T: Copy>(rows: &[Keyword<T>], text: &[u8]) -> bool {
     false
 }
 
-/// Whether a text is a mnemonic, a directive or a register but for capital letters.
+/// Whether a text differs from a mnemonic, a directive or a register in nothing but capital letters.
 fn is_capital(variant: Variant, text: &[u8]) -> bool {
     is_capital_of(mnemonics(variant), text)
         || is_capital_of(directives(), text)
         || is_capital_of(register_names(), text)
 }
 
-/// Whether a text is a register but for the `%`.
+/// Whether a text is a register without its `%`.
 fn is_naked_register(text: &[u8]) -> bool {
     for row in register_names() {
         if let Some((_, name)) = row.text.split_first() {
@@ -183,13 +183,13 @@ fn is_naked_register(text: &[u8]) -> bool {
     false
 }
 
-/// Whether the line ends or a statement begins behind a word.
+/// Whether a word is followed by a statement or the end of the line.
 fn is_label_like(variant: Variant, rest: &[u8], word: &[u8]) -> bool {
     let behind = after_blanks(part(rest, word.len(), rest.len()));
     Reader::new(behind).ends() || is_fixed(variant, word_at(behind))
 }
 
-/// Whether a text begins with a byte that passes.
+/// Whether a text begins with a digit or, unless only digits count, with a letter, `_` or `-`.
 fn first_is(rest: &[u8], digits_alone: bool) -> bool {
     match rest.first() {
         None => false,
@@ -200,7 +200,7 @@ fn first_is(rest: &[u8], digits_alone: bool) -> bool {
     }
 }
 
-/// Whether a part is among some.
+/// Whether the wanted part, if there is one, is in a list.
 fn wants(parts: &[Part], wanted: Option<Part>) -> bool {
     match wanted {
         None => false,
@@ -235,7 +235,7 @@ fn applies(rule: &AsmRule, scene: &LineScene) -> bool {
     true
 }
 
-/// The first of some rules that applies, as its code and its pattern.
+/// The first rule of a list that applies, as its code and its pattern.
 fn rule_among(rules: &[AsmRule], scene: &LineScene) -> Option<(&'static [u8], &'static [u8])> {
     for rule in rules {
         if applies(rule, scene) {
@@ -257,7 +257,7 @@ fn first_rule(scene: &LineScene) -> (&'static [u8], &'static [u8]) {
     (b"asm.line", b"The line is no line of assembly.")
 }
 
-/// The mnemonic or directive of a line, behind its label, with the form of its operands.
+/// The mnemonic or directive of a line, after its label, with the form of its operands.
 fn operation_of(variant: Variant, line: &[u8]) -> (&[u8], Form) {
     let mut reader = Reader::new(line);
     let label = reader.label();
@@ -275,13 +275,13 @@ fn operation_of(variant: Variant, line: &[u8]) -> (&[u8], Form) {
     }
 }
 
-/// What is behind the first colon of a line.
+/// What follows the first colon of a line.
 fn behind_colon(line: &[u8]) -> &[u8] {
     let before = line.iter().take_while(|byte| **byte != b':').count();
     part(line, before.saturating_add(1), line.len())
 }
 
-/// The word by which `y86` refuses a line.
+/// The word that `y86` prints as the reason for refusing a line.
 fn reason_word(why: AsmWhy) -> &'static [u8] {
     match why {
         AsmWhy::Syntax => b"Syntax",
@@ -304,7 +304,7 @@ struct LabelFact<'a> {
     size: u64,
 }
 
-/// What the tests ask about, of a line that is refused.
+/// The facts about a refused line that the tests need.
 fn scene_of<'a>(variant: Variant, line: &'a [u8], why: AsmWhy) -> LineScene<'a> {
     let stop = match why {
         AsmWhy::Syntax => line_stop(variant, line),
@@ -327,7 +327,7 @@ fn scene_of<'a>(variant: Variant, line: &'a [u8], why: AsmWhy) -> LineScene<'a> 
     }
 }
 
-/// The words of the sentence.
+/// The words that fill in the sentence.
 fn words_of<'a>(scene: &LineScene<'a>, label: LabelFact<'a>) -> Words<'a> {
     let mut words: Words<'a> = no_words();
     words.found = scene.word;
@@ -368,7 +368,7 @@ fn first_places(alloc: Global, label: LabelFact) -> Result<Vec<Related>, Memory>
     }
 }
 
-/// The column of a fault; 0 where the whole line is meant.
+/// The column of a fault; 0 if the fault is the whole line.
 fn scene_column(line: &[u8], scene: &LineScene) -> u64 {
     match scene.wants {
         None => 0,
@@ -416,7 +416,7 @@ fn column_of(line: &[u8], rest: &[u8]) -> u64 {
     }
 }
 
-/// The line of a number in a text.
+/// The line of a text with this number.
 fn line_at(text: &[u8], number: u64) -> &[u8] {
     let mut left = number;
     let mut rest = text;
@@ -438,7 +438,7 @@ fn label_of(line: &[u8]) -> &[u8] {
     }
 }
 
-/// The number of the first line, before a number, that has a label; 0 where there is none.
+/// The number of the first line before `before` that defines a label; 0 if there is none.
 fn label_line(text: &[u8], name: &[u8], before: u64) -> u64 {
     let mut number: u64 = 1;
     let mut rest = text;
@@ -463,7 +463,7 @@ fn named<'a>(operand: &Operand<'a>, nothing: &'a [u8]) -> &'a [u8] {
     }
 }
 
-/// The label that a line of the form names as its operand.
+/// The label that a well-formed line names as its operand.
 fn label_used(variant: Variant, line: &[u8]) -> &[u8] {
     let nothing = part(line, 0, 0);
     match read_line(variant, line) {
@@ -482,7 +482,7 @@ fn label_used(variant: Variant, line: &[u8]) -> &[u8] {
     }
 }
 
-/// The fault of a line's labels: one that is defined before, or one that no line defines.
+/// The fault of a line's labels: a label that an earlier line defines, or one that no line defines.
 fn label_fault(
     alloc: Global,
     variant: Variant,
@@ -518,7 +518,7 @@ fn label_fault(
     Ok(None)
 }
 
-/// Tells of the labels of each line.
+/// Reports the label faults of each line.
 fn put_labels(
     alloc: Global,
     variant: Variant,
@@ -542,7 +542,7 @@ fn put_labels(
     Ok(())
 }
 
-/// Tells of each line that is faulty by itself.
+/// Reports each line that is faulty by itself.
 fn put_lines(
     alloc: Global,
     variant: Variant,
@@ -569,7 +569,7 @@ fn put_lines(
     Ok(())
 }
 
-/// Whether a line is among those that are told of.
+/// Whether a fault on this line has been reported.
 #[tactic(auto, using(crate::proofs::Telling::told_at))]
 fn has_line(faults: &[Fault], line: u64) -> bool
     ensures { result ≡ true → IsTold line faults.now }
@@ -582,7 +582,7 @@ fn has_line(faults: &[Fault], line: u64) -> bool
     false
 }
 
-/// Tells of the first fault that the assembler tells, unless its line is told of.
+/// Reports the assembler's first fault, unless a fault on its line has been reported.
 #[tactic(auto, using(crate::proofs::Telling::told_last))]
 fn put_first(
     alloc: Global,
@@ -610,7 +610,7 @@ fn put_first(
     )
 }
 
-/// The faults of a source that the assembler refuses for a first one, in the order of their places.
+/// The faults of a source that the assembler refuses, in the order of their places; `first` is the assembler's fault.
 #[tactic(auto, using(crate::proofs::Telling::told_again))]
 fn all_faults(
     alloc: Global,
@@ -630,7 +630,7 @@ fn all_faults(
     Ok(out)
 }
 
-/// The faults of a source, none where it is accepted.
+/// The faults of a source, none if it is accepted.
 fn source_faults(
     alloc: Global,
     variant: Variant,
@@ -651,7 +651,7 @@ fn source_faults(
 }
 
 /// The faults of a source for a memory of a size: each line that is faulty by itself, each label that is defined twice
-/// or nowhere, and the first line that goes past the memory or puts a byte over another. None: it is accepted.
+/// or nowhere, and the first line that goes past the memory or overwrites a byte. Without faults it is accepted.
 pub fn assembly_report(
     alloc: Global,
     variant: Variant,

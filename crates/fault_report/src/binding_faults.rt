@@ -1,4 +1,4 @@
-//! The faults of a file that is HCL and no design, as sentences.
+//! The faults of a file that is HCL but no design, as sentences.
 ghost use Rattle.std.specs.List.Sorted.{IsPermutation};
 ghost use Rattle.hcl_types.specs.Tables.{IsSound};
 
@@ -17,7 +17,7 @@ use hcl_types::{Row, Table};
 use std::alloc::Global;
 use y86_base::{Items, Memory};
 
-/// A text with its tokens, and the datapath over whose names it is read.
+/// A text with its tokens, and the datapath whose names it may use.
 #[derive(Clone, Copy)]
 pub struct Source<'a> {
     pub text: &'a [u8],
@@ -25,7 +25,7 @@ pub struct Source<'a> {
     pub datapath: Datapath,
 }
 
-/// A sentence that needs no test: the stable name of its kind of fault, and the word by which `y86` refuses a file.
+/// A sentence that needs no test: the stable name of its kind of fault, and the reason that `y86` prints for it.
 #[derive(Clone, Copy)]
 pub struct Saying {
     pub code: &'static [u8],
@@ -33,7 +33,7 @@ pub struct Saying {
     pub pattern: &'static [u8],
 }
 
-/// A fault at a token, or of no line.
+/// A fault at a token, or one that belongs to no line.
 fn fault_at(
     alloc: Global,
     source: &Source,
@@ -76,7 +76,7 @@ fn is_unknown(text: &[u8], token: &TokenAt, rows: &[Row]) -> bool {
     token.kind == TokenKind::Name && row_of(rows, token_text(text, token)).is_none()
 }
 
-/// Whether a token is the first of its name.
+/// Whether a token is the first with its name.
 fn is_first(text: &[u8], tokens: &[TokenAt], token: &TokenAt) -> bool {
     let name = token_text(text, token);
     for other in tokens {
@@ -90,7 +90,7 @@ fn is_first(text: &[u8], tokens: &[TokenAt], token: &TokenAt) -> bool {
     true
 }
 
-/// How many different names of a text no row has.
+/// The number of different names in a text that have no row.
 pub fn count_unknown(text: &[u8], tokens: &[TokenAt], rows: &[Row]) -> u64 {
     let mut count: u64 = 0;
     for token in tokens {
@@ -101,7 +101,7 @@ pub fn count_unknown(text: &[u8], tokens: &[TokenAt], rows: &[Row]) -> u64 {
     count
 }
 
-/// The first name of a text that no row has.
+/// The first name of a text that has no row.
 pub fn first_unknown<'a>(text: &[u8], tokens: &'a [TokenAt], rows: &[Row]) -> Option<&'a TokenAt> {
     for token in tokens {
         if is_unknown(text, token, rows) {
@@ -111,7 +111,7 @@ pub fn first_unknown<'a>(text: &[u8], tokens: &'a [TokenAt], rows: &[Row]) -> Op
     None
 }
 
-/// The sentences on what binding refuses.
+/// The sentences on files that binding refuses.
 static BINDING_SAYINGS: [Saying; 14] = [
     Saying {
         code: b"hcl.unknown",
@@ -185,7 +185,7 @@ static BINDING_SAYINGS: [Saying; 14] = [
     },
 ];
 
-/// Which sentence is said, in the order of the table.
+/// The sentences, in the order of the table.
 #[derive(Clone, Copy)]
 enum Said {
     Unknown,
@@ -204,7 +204,7 @@ enum Said {
     OtherDatapath,
 }
 
-/// The sentences on what binding refuses.
+/// The sentences on files that binding refuses.
 pub fn binding_sayings() -> &'static [Saying] {
     &BINDING_SAYINGS
 }
@@ -216,7 +216,7 @@ pub const NOTHING_SAID: Saying = Saying {
     pattern: b"",
 };
 
-/// The sentence of the table.
+/// A sentence of the table.
 fn saying_at(said: Said) -> Saying {
     match binding_sayings().get(said as usize) {
         Some(saying) => *saying,
@@ -224,7 +224,7 @@ fn saying_at(said: Said) -> Saying {
     }
 }
 
-/// Tells of each name that no row has, where it is first.
+/// Reports each name that has no row, at its first use.
 fn put_unknown(
     alloc: Global,
     source: &Source,
@@ -262,7 +262,7 @@ fn kind_words(kind: Kind) -> (&'static [u8], &'static [u8]) {
     }
 }
 
-/// What is said of a part of the wrong kind.
+/// The sentence on a part of the wrong kind.
 fn blamed_saying(what: Blamed) -> Saying {
     match what {
         Blamed::WordName => saying_at(Said::WordName),
@@ -273,7 +273,7 @@ fn blamed_saying(what: Blamed) -> Saying {
     }
 }
 
-/// The name or number before which so many others are, among the tokens behind a position.
+/// The name or number that has `leaf` others before it, among the tokens after a position.
 fn leaf_token(tokens: &[TokenAt], start: usize, leaf: usize) -> Option<&TokenAt> {
     let mut left = leaf;
     for (index, token) in tokens.iter().enumerate() {
@@ -288,7 +288,7 @@ fn leaf_token(tokens: &[TokenAt], start: usize, leaf: usize) -> Option<&TokenAt>
     None
 }
 
-/// The fault of a definition whose body is of the other kind, by the part that is.
+/// The fault of a definition whose body has the wrong kind, at the part that has it.
 fn body_fault(
     alloc: Global,
     source: &Source,
@@ -309,7 +309,7 @@ fn body_fault(
     fault_at(alloc, source, Some(token), saying, &words, Vec::new(alloc))
 }
 
-/// The fault of a definition or a declaration whose keyword is of the other kind than the signal.
+/// The fault of a definition or a declaration whose keyword has another kind than the signal.
 fn keyword_fault(
     alloc: Global,
     source: &Source,
@@ -329,7 +329,7 @@ fn keyword_fault(
     )
 }
 
-/// The fault of a definition or a declaration that is of the other kind.
+/// The fault of a definition or a declaration of the wrong kind.
 fn kind_fault(
     alloc: Global,
     source: &Source,
@@ -359,7 +359,7 @@ fn kind_fault(
     }
 }
 
-/// The line and the column of the first definition of a name; 0 where there is none.
+/// The line and the column of the first definition of a name; 0 if there is none.
 fn first_definition(source: &Source, name: &[u8]) -> (u64, u64) {
     match definition_name(source.text, source.tokens, name) {
         None => (0, 0),
@@ -390,7 +390,7 @@ fn twice_fault(alloc: Global, source: &Source, token: &TokenAt) -> Result<Fault,
     )
 }
 
-/// The fault of a definition of what no file defines.
+/// The fault of a definition of a signal that no file may define.
 fn redefined_fault(alloc: Global, source: &Source, token: &TokenAt) -> Result<Fault, Memory> {
     let found = token_text(source.text, token);
     let words = words_about(found, datapath_name(source.datapath), b"", 0, 0);
@@ -398,7 +398,7 @@ fn redefined_fault(alloc: Global, source: &Source, token: &TokenAt) -> Result<Fa
     fault_at(alloc, source, Some(token), saying, &words, Vec::new(alloc))
 }
 
-/// The fault of an item, unless it is a name that no row has.
+/// The fault of an item, unless it is a name that has no row.
 fn item_saying(
     alloc: Global,
     source: &Source,
@@ -426,7 +426,7 @@ fn item_saying(
     }
 }
 
-/// Tells of each item's fault, names that no row has apart.
+/// Reports each item's fault, except names that have no row.
 fn put_items(
     alloc: Global,
     source: &Source,
@@ -448,7 +448,7 @@ fn put_items(
     Ok(())
 }
 
-/// Tells of each signal that is missing.
+/// Reports each missing signal.
 fn put_missing(
     alloc: Global,
     source: &Source,
@@ -475,7 +475,7 @@ fn put_missing(
     Ok(())
 }
 
-/// Puts faults into the order of their places. Faults at one place keep theirs.
+/// Sorts faults by their places. Faults at the same place keep their order.
 pub fn sort_faults(faults: &mut Vec<Fault>) -> Result<(), Memory>
     ensures { IsPermutation faults.old.items faults.new.items }
 {
@@ -485,8 +485,8 @@ pub fn sort_faults(faults: &mut Vec<Fault>) -> Result<(), Memory>
     }
 }
 
-/// The faults of a file over a table: each name that no row has, where it is first; the other faults of the items;
-/// and the signals that are missing.
+/// The faults of a file over a table: each name that has no row, at its first use; the other faults of the items;
+/// and the missing signals.
 pub fn binding_faults(
     alloc: Global,
     source: &Source,
@@ -513,7 +513,7 @@ pub fn binding_faults(
     Ok(out)
 }
 
-/// Adds a name in quotation marks of the text.
+/// Adds a name in backticks.
 fn put_name(out: &mut Vec<u8>, name: &[u8]) -> Result<(), Memory> {
     put_bytes(out, b"`")?;
     put_bytes(out, name)?;
@@ -528,7 +528,7 @@ fn name_of(rows: &[Row], id: u32) -> &[u8] {
     }
 }
 
-/// The name of the first of some rows.
+/// The name of the first row of a list.
 fn first_name<'a>(rows: &'a [Row], ids: &[u32]) -> &'a [u8] {
     match ids.first() {
         None => b"",
@@ -536,7 +536,7 @@ fn first_name<'a>(rows: &'a [Row], ids: &[u32]) -> &'a [u8] {
     }
 }
 
-/// That one name needs another.
+/// Adds that one name needs another.
 fn put_need(out: &mut Vec<u8>, one: &[u8], other: &[u8]) -> Result<(), Memory> {
     if !out.is_empty() {
         put_bytes(out, b", ")?;
@@ -567,7 +567,7 @@ fn needs_text(alloc: Global, rows: &[Row], ids: &[u32]) -> Result<Vec<u8>, Memor
     Ok(out)
 }
 
-/// The definitions on a cycle.
+/// The places of the definitions on a cycle.
 fn cycle_places(
     alloc: Global,
     source: &Source,
@@ -639,7 +639,7 @@ fn text_at<'a>(text: &'a [u8], token: Option<&TokenAt>) -> &'a [u8] {
     }
 }
 
-/// The fault of a file that is one for another datapath.
+/// The fault of a file for another datapath.
 pub fn datapath_fault(
     alloc: Global,
     source: &Source,

@@ -1,24 +1,24 @@
-//! Which part of a definition's body is a word where a Boolean is wanted, or a Boolean where a word is.
+//! Which part of a definition's body is a word where a Boolean is required, or a Boolean where a word is.
 use crate::binding_faults::row_of;
 use hcl_tree::{Branch, Expr, Kind};
 use hcl_types::{Class, Row};
 
-/// What is of the wrong kind.
+/// What has the wrong kind.
 #[derive(Clone, Copy, Debug, PartialEq, Eq)]
 pub enum Blamed {
-    /// A name of a word, where a Boolean is wanted.
+    /// The name of a word, where a Boolean is required.
     WordName,
-    /// A name of a Boolean, where a word is wanted.
+    /// The name of a Boolean, where a word is required.
     BooleanName,
-    /// A number other than 0 and 1, where a Boolean is wanted.
+    /// A number other than 0 and 1, where a Boolean is required.
     Number,
-    /// A list of cases, where a Boolean is wanted.
+    /// A list of cases, where a Boolean is required.
     Cases,
-    /// Another expression, where a word is wanted.
+    /// Another expression, where a word is required.
     Expression,
 }
 
-/// What is of the wrong kind, and how many names and numbers of the body are before it.
+/// What has the wrong kind, and the number of names and numbers before it in the body.
 #[derive(Clone, Copy, Debug, PartialEq, Eq)]
 pub struct Blame {
     pub what: Blamed,
@@ -35,7 +35,7 @@ pub fn kind_of_row(row: &Row) -> Kind {
     }
 }
 
-/// A name that is wanted as of a kind.
+/// Blames a name if its kind isn't the required one.
 fn blame_name(rows: &[Row], name: &[u8], wanted: Kind, leaf: usize) -> Option<Blame> {
     match row_of(rows, name) {
         None => None,
@@ -53,8 +53,8 @@ fn blame_name(rows: &[Row], name: &[u8], wanted: Kind, leaf: usize) -> Option<Bl
     }
 }
 
-/// The first part of an expression of the wrong kind, where the expression is wanted as of a kind. Counts the names and
-/// the numbers that are passed.
+/// The first part of an expression that has the wrong kind, if the expression is required to have kind `wanted`. Adds
+/// the names and numbers that it passes to `leaf`.
 #[cycle(blaming)]
 pub fn first_blame(rows: &[Row], e: &Expr, wanted: Kind, leaf: &mut usize) -> Option<Blame> {
     let first = *leaf;
@@ -89,7 +89,7 @@ pub fn first_blame(rows: &[Row], e: &Expr, wanted: Kind, leaf: &mut usize) -> Op
     }
 }
 
-/// The same of an expression that is a Boolean, by its operands.
+/// The same for an expression that is a Boolean, by its operands.
 #[cycle(blaming)]
 fn blame_truth(rows: &[Row], e: &Expr, leaf: &mut usize) -> Option<Blame> {
     match e {

@@ -1,4 +1,4 @@
-//! What is reported of a file: its faults, each with its place, its sentence and the facts behind it.
+//! What is reported of a file: its faults, each with its place, its sentence and related facts.
 ghost use Rattle.std.specs.Prelude.{◌≡◌, ◌++◌, ◌∷◌, [], OnOk};
 ghost use Rattle.fault_report.specs.Datapaths as spec;
 
@@ -23,7 +23,7 @@ pub struct Tables {
     pub pipe: Table,
 }
 
-/// Another place that a fault speaks of, and what is there.
+/// Another place that a fault refers to, and what is there.
 #[derive(Debug, Drop)]
 pub struct Related {
     /// `bracket`, `before`, `first`, `cycle`
@@ -36,13 +36,13 @@ pub struct Related {
 /// A fault of a file.
 #[derive(Debug, Drop)]
 pub struct Fault {
-    /// From 1; 0 where the fault belongs to no line, as a signal that is missing.
+    /// From 1; 0 if the fault belongs to no line, for example a missing signal.
     pub line: u64,
-    /// In bytes, from 1; 0 where the whole line is meant.
+    /// In bytes, from 1; 0 if the fault is the whole line.
     pub column: u64,
-    /// The stable name of this kind of fault, as `hcl.semicolon`.
+    /// The stable name of this kind of fault, for example `hcl.semicolon`.
     pub code: &'static [u8],
-    /// The word by which `y86` refuses the file for it.
+    /// The word that `y86` prints as the reason for refusing the file.
     pub reason: &'static [u8],
     /// One or two sentences without a line feed.
     pub sentence: Text,
@@ -53,8 +53,8 @@ pub struct Fault {
     pub related: Items<Related>,
 }
 
-/// The faults of a file, in the order in which they are told. A file without any is accepted; one of HCL is a design
-/// for the datapath then.
+/// The faults of a file, in the order in which they are printed. A file without faults is accepted; if it is HCL, it is
+/// a design for the datapath.
 #[derive(Debug, Drop)]
 pub struct Report {
     pub datapath: Option<Datapath>,
@@ -82,7 +82,7 @@ pub fn put<T: Drop>(list: &mut Vec<T>, last: T) -> Result<(), Memory>
     }
 }
 
-/// The part of a text between two places; nothing where they are no such places.
+/// The part of a text between two places; nothing if they aren't places of it, in this order.
 pub fn part(text: &[u8], from: usize, to: usize) -> &[u8] {
     if from <= to && to <= text.len() {
         let front = text.split_at(to).0;

@@ -1,11 +1,11 @@
-//! Sentences with places for words: `~found~` in a pattern stands for what was found, and so on.
+//! Fills the places of a pattern with words: `~found~` is replaced by what was found, and so on.
 ghost use Rattle.std.specs.Prelude.{◌≡◌, ◌≤◌, ◌++◌, length, OnOk};
 ghost use Rattle.y86_base.specs.Numeral.{numeral};
 
 use std::alloc::Global;
 use y86_base::{Memory, Numeral};
 
-/// What the places of a pattern stand for.
+/// What replaces the places of a pattern.
 #[derive(Clone, Copy, Debug)]
 pub struct Words<'a> {
     /// The token or the name that a fault is about.
@@ -15,7 +15,7 @@ pub struct Words<'a> {
     /// The innermost open bracket, and what closes it.
     pub open: &'a [u8],
     pub close: &'a [u8],
-    /// What would open the bracket that is found.
+    /// What would open the bracket that was found.
     pub opener: &'a [u8],
     /// The datapath, the mnemonic or the kind in question.
     pub name: &'a [u8],
@@ -89,7 +89,7 @@ pub fn put_decimal(out: &mut Vec<u8>, number: u64) -> Result<(), Memory>
     put_bytes(out, digits.as_bytes())
 }
 
-/// Adds what a place of a pattern stands for.
+/// Adds what replaces a place of a pattern.
 fn put_word(out: &mut Vec<u8>, words: &Words, place: &[u8]) -> Result<(), Memory> {
     if place == b"found".as_slice() {
         return put_bytes(out, words.found);
@@ -118,7 +118,7 @@ fn put_word(out: &mut Vec<u8>, words: &Words, place: &[u8]) -> Result<(), Memory
     put_number(out, words, place)
 }
 
-/// Adds the number that a place of a pattern stands for.
+/// Adds the number that replaces a place of a pattern.
 fn put_number(out: &mut Vec<u8>, words: &Words, place: &[u8]) -> Result<(), Memory> {
     if place == b"line".as_slice() {
         return put_decimal(out, words.line);
@@ -135,14 +135,14 @@ fn put_number(out: &mut Vec<u8>, words: &Words, place: &[u8]) -> Result<(), Memo
     Ok(())
 }
 
-/// How many bytes stand before the first `~`.
+/// The number of bytes before the first `~`.
 fn before_mark(bytes: &[u8]) -> usize
     ensures { result ≤ length bytes.now }
 {
     bytes.iter().take_while(|byte| **byte != b'~').count()
 }
 
-/// Adds a pattern, with the words in its places.
+/// Adds a pattern with its places filled in.
 fn put_filled(out: &mut Vec<u8>, pattern: &[u8], words: &Words) -> Result<(), Memory> {
     let mut rest = pattern;
     let mut is_place = false;

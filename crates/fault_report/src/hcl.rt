@@ -1,4 +1,4 @@
-//! The faults of an HCL text.
+//! The faults of an HCL text, for a given datapath or for the one whose names fit best.
 ghost use Rattle.hcl_types.specs.Tables.{IsSound};
 
 use crate::binding_faults::{Source, count_unknown, datapath_fault, table_faults};
@@ -24,7 +24,7 @@ fn table_of(tables: &Tables, datapath: Datapath) -> &Table
     }
 }
 
-/// The faults of a text that is HCL, over the names of a datapath.
+/// The faults of a text that the HCL reader accepts, over the names of a datapath.
 fn faults_over<'a>(
     alloc: Global,
     text: &'a [u8],
@@ -47,7 +47,7 @@ fn faults_over<'a>(
     }
 }
 
-/// How many names of a text a datapath lacks.
+/// The number of names in a text that a datapath lacks.
 fn lacks(text: &[u8], tokens: &[TokenAt], tables: &Tables, datapath: Datapath) -> u64
     requires seq { IsSound tables.now.seq.rows }
     requires seq_plus { IsSound tables.now.seq_plus.rows }
@@ -74,8 +74,8 @@ fn nearest(text: &[u8], tokens: &[TokenAt], tables: &Tables) -> Datapath
     }
 }
 
-/// The faults over the names of a datapath that was asked for. Where it lacks names and another has all of them, that is
-/// the one fault which is told.
+/// The faults over the names of a datapath that was asked for. If it lacks names and another datapath has all of them,
+/// this is the only fault.
 fn faults_of_asked<'a>(
     alloc: Global,
     text: &'a [u8],
@@ -104,8 +104,8 @@ fn faults_of_asked<'a>(
     Ok(out)
 }
 
-/// The faults of an HCL text for a datapath, or for the one whose names fit best: where it is no HCL that one fault,
-/// else every fault of binding, or a cycle. None: the file is a design for the datapath.
+/// The faults of an HCL text for a datapath, or for the one whose names fit best: if it isn't HCL, the reader's fault
+/// alone; otherwise every fault of binding, or a cycle. Without faults the file is a design for the datapath.
 pub fn hcl_report(
     alloc: Global,
     text: &[u8],

@@ -1,4 +1,4 @@
-//! The fault of a text that is no HCL, as a sentence.
+//! The fault of a text that is not HCL, as a sentence.
 use crate::facts::{Fault, Related, other_place, part, put};
 use crate::fill::{Words, filled, no_words, put_bytes};
 use crate::hcl_rules::{HclRule, Test, hcl_rules};
@@ -8,7 +8,7 @@ use hcl_tree::Text;
 use std::alloc::Global;
 use y86_base::{Items, Memory, number_in_base};
 
-/// What the tests of a rule ask about.
+/// The facts that the tests of a rule need.
 #[derive(Clone, Copy)]
 struct Scene<'a> {
     why: HclWhy,
@@ -52,7 +52,7 @@ pub fn kind_name(kind: Kind) -> &'static [u8] {
     }
 }
 
-/// What closes an opening bracket, or opens a closing one.
+/// The bracket that closes an opening one, or opens a closing one.
 fn partner(kind: Option<Kind>) -> &'static [u8] {
     match kind {
         Some(Kind::OpenParenthesis) => b")",
@@ -65,12 +65,12 @@ fn partner(kind: Option<Kind>) -> &'static [u8] {
     }
 }
 
-/// Whether a kind is among some.
+/// Whether a kind is in a list.
 fn is_among(kinds: &[Kind], kind: Kind) -> bool {
     kinds.iter().any(|other| *other == kind)
 }
 
-/// Whether a kind, if there is one, is among some.
+/// Whether a kind, if there is one, is in a list.
 fn is_one_of(kinds: &[Kind], kind: Option<Kind>) -> bool {
     match kind {
         None => false,
@@ -94,7 +94,7 @@ fn is_operand(kind: Option<Kind>) -> bool {
     )
 }
 
-/// Whether a text begins with one of some others.
+/// Whether a text begins with one of a list.
 pub fn begins_with(texts: &[&'static [u8]], bytes: &[u8]) -> bool {
     for text in texts {
         if bytes.starts_with(*text) {
@@ -104,7 +104,7 @@ pub fn begins_with(texts: &[&'static [u8]], bytes: &[u8]) -> bool {
     false
 }
 
-/// Whether a text is one of some others.
+/// Whether a text is in a list.
 pub fn is_text_of(texts: &[&'static [u8]], bytes: &[u8]) -> bool {
     for text in texts {
         if bytes == *text {
@@ -144,7 +144,7 @@ fn applies(rule: &HclRule, scene: &Scene) -> bool {
     true
 }
 
-/// The first of some rules that applies, as its code and its pattern.
+/// The first rule of a list that applies, as its code and its pattern.
 fn rule_among(rules: &[HclRule], scene: &Scene) -> Option<(&'static [u8], &'static [u8])> {
     for rule in rules {
         if applies(rule, scene) {
@@ -166,7 +166,7 @@ fn first_rule(scene: &Scene) -> (&'static [u8], &'static [u8]) {
     (b"hcl.token", b"The text is no HCL from here on.")
 }
 
-/// The names of some kinds with `,` between them.
+/// The names of the kinds, with `,` between them.
 fn wanted_list(alloc: Global, kinds: &[Kind]) -> Result<Vec<u8>, Memory> {
     let mut out = Vec::new(alloc);
     for kind in kinds {
@@ -184,7 +184,7 @@ fn wanted_list(alloc: Global, kinds: &[Kind]) -> Result<Vec<u8>, Memory> {
     Ok(out)
 }
 
-/// The names of some kinds.
+/// The names of the kinds.
 fn expected_names(alloc: Global, kinds: &[Kind]) -> Result<Vec<&'static [u8]>, Memory> {
     let mut names = Vec::new(alloc);
     for kind in kinds {
@@ -196,7 +196,7 @@ fn expected_names(alloc: Global, kinds: &[Kind]) -> Result<Vec<&'static [u8]>, M
     Ok(names)
 }
 
-/// The bytes of a token as they are told: of one that begins no token the first byte alone.
+/// The bytes of a token as they are printed. If no token begins there, it is only the first byte.
 fn told_text<'a>(text: &'a [u8], token: &TokenAt) -> &'a [u8] {
     match token.kind {
         Kind::Stray | Kind::BadByte => part(text, token.from, token.from.saturating_add(1)),
@@ -204,7 +204,7 @@ fn told_text<'a>(text: &'a [u8], token: &TokenAt) -> &'a [u8] {
     }
 }
 
-/// The number that hex digits behind an `x` write, and 0 for one of 2^64 or more.
+/// The number that the hex digits after an `x` denote, and 0 if it is 2^64 or more.
 fn hex_number(bytes: &[u8]) -> u64 {
     match bytes.split_first() {
         None => 0,
@@ -231,7 +231,7 @@ fn token_before(tokens: &[TokenAt], index: usize) -> Option<&TokenAt> {
     tokens.get(index - 1)
 }
 
-/// Adds a token as a place that a fault speaks of.
+/// Adds a token as a place that a fault refers to.
 fn put_related(
     alloc: Global,
     list: &mut Vec<Related>,
@@ -246,7 +246,7 @@ fn put_related(
     }
 }
 
-/// The open brackets, the innermost first, and the token before.
+/// The open brackets, the innermost first, and the token in front.
 fn related_places(
     alloc: Global,
     text: &[u8],
@@ -270,7 +270,7 @@ fn related_places(
     Ok(list)
 }
 
-/// The word by which `y86` refuses a text.
+/// The word that `y86` prints as the reason for refusing a text.
 fn reason_word(why: HclWhy) -> &'static [u8] {
     match why {
         HclWhy::Syntax => b"Syntax",
@@ -282,7 +282,7 @@ fn reason_word(why: HclWhy) -> &'static [u8] {
     }
 }
 
-/// What the tests ask about, at the place where the reader stopped.
+/// The facts that the tests need about the place where the reader stopped.
 fn scene_of<'a>(text: &'a [u8], stopped: &'a Stopped) -> Scene<'a> {
     let tokens = stopped.tokens.items();
     let nothing = part(text, text.len(), text.len());
@@ -310,7 +310,7 @@ fn scene_of<'a>(text: &'a [u8], stopped: &'a Stopped) -> Scene<'a> {
     }
 }
 
-/// The words of the sentence.
+/// The words that fill in the sentence.
 fn words_of<'a>(
     text: &'a [u8],
     stopped: &'a Stopped,

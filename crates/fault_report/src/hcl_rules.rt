@@ -1,5 +1,5 @@
-//! The sentences on texts that are no HCL, as data: which fault, what was found, what is before it, what is open, and
-//! what could be there. The first rule whose tests all hold says the sentence.
+//! The sentences on texts that are not HCL, as data. They depend on the fault, what was found, what is before it, which
+//! brackets are open, and what could be there. The first rule whose tests all hold gives the sentence.
 use hcl_faults::TokenKind as Kind;
 use hcl_read::HclWhy as Why;
 
@@ -7,7 +7,7 @@ use hcl_read::HclWhy as Why;
 pub enum Test {
     /// The reader's reason.
     Refused(Why),
-    /// The token there is of one of these kinds.
+    /// The token there has one of these kinds.
     Found(&'static [Kind]),
     /// The token there is a keyword that begins an item.
     FoundItemWord,
@@ -19,7 +19,7 @@ pub enum Test {
     Begins(&'static [&'static [u8]]),
     /// The token there is one of these.
     FoundIs(&'static [&'static [u8]]),
-    /// The token before it is of one of these kinds.
+    /// The token before it has one of these kinds.
     Behind(&'static [Kind]),
     /// The token before it is one of these.
     BehindIs(&'static [&'static [u8]]),
@@ -35,7 +35,7 @@ pub enum Test {
     Refuses(Kind),
 }
 
-/// A sentence, and when it is said.
+/// A sentence, and the tests under which it is printed.
 pub struct HclRule {
     pub when: &'static [Test],
     pub code: &'static [u8],
@@ -242,7 +242,7 @@ static OPEN_ENDS: [HclRule; 6] = [
     },
 ];
 
-/// Definitions and brackets that nothing ends.
+/// Definitions and brackets without an end.
 fn open_ends() -> &'static [HclRule] {
     &OPEN_ENDS
 }
@@ -284,7 +284,7 @@ static NAMES: [HclRule; 6] = [
     },
 ];
 
-/// Names, quoted texts and `=` that are missing.
+/// Missing names, quoted texts and `=`.
 fn names() -> &'static [HclRule] {
     &NAMES
 }
@@ -359,7 +359,7 @@ static WRONG_BRACKETS: [HclRule; 3] = [
     },
 ];
 
-/// A bracket that closes another.
+/// A bracket that closes one of another kind.
 fn wrong_brackets() -> &'static [HclRule] {
     &WRONG_BRACKETS
 }
@@ -544,7 +544,7 @@ static PLACES: [HclRule; 5] = [
     },
 ];
 
-/// What belongs elsewhere.
+/// Tokens that belong elsewhere.
 fn places() -> &'static [HclRule] {
     &PLACES
 }
@@ -586,7 +586,7 @@ fn operands() -> &'static [HclRule] {
     &OPERANDS
 }
 
-/// The rules in groups, in the order in which they are tried; None behind the last group.
+/// The rules in groups, in the order in which they are tried; `None` after the last group.
 pub fn hcl_rules(group: usize) -> Option<&'static [HclRule]> {
     match group {
         0 => Some(limits()),

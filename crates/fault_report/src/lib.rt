@@ -1,5 +1,5 @@
-//! The faults of HCL, assembly and object text in sentences: text in, sentences and facts out. The sentences are data,
-//! in the tables of `hcl_rules` and `asm_rules`. `binding_faults` and `object` have those on faults with one sentence for
+//! Reports the faults of HCL, assembly and object text: text in, sentences and facts out. The sentences are data, in
+//! the tables of `hcl_rules` and `asm_rules`. `binding_faults` and `object` have those on faults with one sentence for
 //! each reason.
 #![tactic(auto)]
 

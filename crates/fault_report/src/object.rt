@@ -49,7 +49,7 @@ static OBJECT_SAYINGS: [Saying; 7] = [
     },
 ];
 
-/// Which sentence is said, in the order of the table.
+/// The sentences, in the order of the table.
 #[derive(Clone, Copy)]
 enum Said {
     Line,
@@ -66,7 +66,7 @@ pub fn object_sayings() -> &'static [Saying] {
     &OBJECT_SAYINGS
 }
 
-/// The sentence of the table.
+/// A sentence of the table.
 fn saying_at(said: Said) -> Saying {
     match object_sayings().get(said as usize) {
         Some(saying) => *saying,
@@ -74,7 +74,7 @@ fn saying_at(said: Said) -> Saying {
     }
 }
 
-/// The sentence on a reason.
+/// The sentence for a reason.
 fn said_of(why: YoWhy) -> Said {
     match why {
         YoWhy::Syntax => Said::Line,
@@ -85,7 +85,7 @@ fn said_of(why: YoWhy) -> Said {
     }
 }
 
-/// A fault of a line, or of the whole text at line 0.
+/// A fault of a line, or at line 0 a fault of the whole text.
 fn told(alloc: Global, line: u64, size: u64, said: Said) -> Result<Fault, Memory> {
     let saying = saying_at(said);
     let mut words = no_words();
@@ -103,7 +103,7 @@ fn told(alloc: Global, line: u64, size: u64, said: Said) -> Result<Fault, Memory
     })
 }
 
-/// What is behind some lines of a text.
+/// What follows the first lines of a text.
 fn behind_lines(text: &[u8], count: u64) -> &[u8] {
     let mut left = count;
     let mut rest = text;
@@ -119,7 +119,7 @@ fn behind_lines(text: &[u8], count: u64) -> &[u8] {
     rest
 }
 
-/// Tells of each line with a fault: the first, then the first behind it, and so on, since no line's fault depends on
+/// Reports each line with a fault: the first, then the first after it, and so on, because no line's fault depends on
 /// another line.
 fn put_faults(alloc: Global, text: &[u8], size: u64, out: &mut Vec<Fault>) -> Result<(), Memory>
     requires { IsSize size }
@@ -149,7 +149,7 @@ fn put_faults(alloc: Global, text: &[u8], size: u64, out: &mut Vec<Fault>) -> Re
     Ok(())
 }
 
-/// Whether some line puts a byte.
+/// Whether any line puts a byte.
 fn has_bytes(text: &[u8]) -> bool {
     let mut rest = text;
     'lines: while let Some((line, behind)) = first_line(rest) {
@@ -163,7 +163,7 @@ fn has_bytes(text: &[u8]) -> bool {
     false
 }
 
-/// The number of the first line that is a statement of assembly; 0 where none is.
+/// The number of the first line that is a statement of assembly; 0 if there is none.
 fn statement_line(text: &[u8]) -> u64 {
     let mut number: u64 = 1;
     let mut rest = text;
@@ -180,14 +180,13 @@ fn statement_line(text: &[u8]) -> u64 {
     0
 }
 
-/// Whether a text is a source in place of an object text: no line puts a byte, and one is a statement of assembly.
+/// Whether a text is a source instead of an object text: no line puts a byte, and one is a statement of assembly.
 pub fn is_source(text: &[u8]) -> bool {
     !has_bytes(text) && statement_line(text) > 0
 }
 
-/// The faults of an object text for a memory of a size: each line with one, or that no line puts a byte, at the first
-/// statement of a source. None: it is
-/// accepted, and some byte is put.
+/// The faults of an object text for a memory of a size: each faulty line, or that no line puts a byte, at the first
+/// statement if the text is a source. Without faults it is accepted, and puts at least one byte.
 pub fn object_report(alloc: Global, text: &[u8], size: u64) -> Result<Report, Memory>
     requires { IsSize size }
 {

@@ -1,4 +1,4 @@
-//! All sentences on one kind of fault, with `~` around what is filled in.
+//! All sentences on one kind of fault, with `~` around the names of what is filled in.
 use crate::asm_rules::{AsmRule, asm_rules};
 use crate::binding_faults::{Saying, binding_sayings};
 use crate::facts::put;
@@ -80,7 +80,7 @@ fn put_sayings(
     Ok(())
 }
 
-/// The sentences on the kind of fault of a code, as `hcl.semicolon`; none for a text that is no code.
+/// The sentences for the code of a kind of fault, for example `hcl.semicolon`; none if the text isn't a code.
 pub fn sentences_of(alloc: Global, code: &[u8]) -> Result<Vec<&'static [u8]>, Memory> {
     let mut out: Vec<&'static [u8]> = Vec::new(alloc);
     put_hcl_groups(&mut out, code)?;

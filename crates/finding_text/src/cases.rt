@@ -1,4 +1,4 @@
-//! Where the cases of definitions are.
+//! Where the cases of definitions are in the text of a file, to print the case that a definition takes.
 
 /// A case of a definition in the text of a file: its signal, its number, counted from 0, its place, counted from 1, and its bytes.
 #[derive(Clone, Copy, Debug)]

@@ -1,4 +1,4 @@
-//! The findings of an obligation as JSON, with names that are stable.
+//! Writes the findings of an obligation as JSON, with stable names.
 ghost use Rattle.std.specs.Prelude.{◌≡◌, ◌++◌, OnOk};
 ghost use Rattle.finding_text.specs.Facts as spec;
 
@@ -13,7 +13,7 @@ use hcl_types::NameId;
 use json::Writer;
 use std::alloc::{AllocError, Global};
 
-/// Where JSON is written.
+/// The writer of JSON.
 pub type Out = Writer<Global>;
 
 /// Writes a member that is a text.
@@ -208,7 +208,7 @@ fn put_members(out: &mut Out, o: &Obligation) -> Result<(), AllocError>
     out.end_object()
 }
 
-/// Writes an obligation: the member `obligation`, which is null where there is none.
+/// Writes an obligation: the member `obligation`, which is null if there is none.
 pub fn put_obligation_facts(out: &mut Out, o: Option<&Obligation>) -> Result<(), AllocError> {
     out.key("obligation")?;
     match o {

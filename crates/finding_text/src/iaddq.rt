@@ -1,4 +1,4 @@
-//! Whether a file names iaddq, which a check without `--full` doesn't ask.
+//! Whether a file names iaddq, which a check without `--full` doesn't cover.
 use crate::values::name_of;
 use hcl_types::{NameId, Row, Term, put_names};
 use std::alloc::{AllocError, Global};
@@ -18,7 +18,7 @@ pub fn names_iaddq(alloc: Global, rows: &[Row], terms: &[Term]) -> Result<bool, 
     Ok(false)
 }
 
-/// Writes that iaddq isn't covered, if the file names it and the check didn't ask it.
+/// Writes that iaddq isn't covered, if the file names it and the check was without `--full`.
 pub fn put_unasked(out: &mut String, variant: Variant, is_named: bool) -> Result<(), AllocError> {
     if is_named && variant == Variant::Base {
         out.push_str("\nThe file names IIADDQ, but iaddq wasn't checked. --full checks it too.\n")?;

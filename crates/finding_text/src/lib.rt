@@ -1,7 +1,7 @@
-//! What is found of signals at a counterexample, in sentences and as JSON: what the file picks, what is required, which case is taken,
-//! and what the definition reads.
+//! Writes the findings on signals at a counterexample, in sentences and as JSON: what the file picks, what is required,
+//! which case is taken, and what the definition reads.
 //!
-//! It serves all processors. That its sentences say the right facts is tested, and not proved.
+//! All datapaths use it. That its sentences state the right facts is tested, not proved.
 #![tactic(auto)]
 
 mod cases;

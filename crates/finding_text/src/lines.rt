@@ -1,4 +1,4 @@
-//! The findings of an obligation, in lines.
+//! Writes the findings of an obligation, in lines.
 use crate::cases::{CasePlace, place_of};
 use crate::paragraph::put_paragraph;
 use crate::told::{put_finding, put_reads};
@@ -8,7 +8,7 @@ use findings::Finding;
 use hcl_types::NameId;
 use std::alloc::{AllocError, Global};
 
-/// What begins the lines that follow a finding.
+/// The indentation of the lines that follow a finding.
 const INDENT: &str = "           ";
 
 /// The same for the text of a case.

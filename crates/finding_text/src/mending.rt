@@ -1,4 +1,4 @@
-//! Which of some obligations has wrong signals that depend on no other one's wrong signals.
+//! Which obligation to mend first: one whose wrong signals depend on no other's wrong signals.
 ghost use Rattle.std.specs.Prelude.{◌≡◌, OnOk};
 ghost use Rattle.finding_text.specs.Mending as spec;
 
@@ -7,7 +7,7 @@ use findings::Finding;
 use hcl_types::{NameId, put_names};
 use std::alloc::{AllocError, Global};
 
-/// Adds a name that isn't listed.
+/// Adds a name, unless it is listed already.
 pub fn put_once(out: &mut Vec<NameId>, id: NameId) -> Result<(), AllocError>
     ensures { OnOk result (out.new.items ≡ spec.once out.old.items id) }
 {
@@ -53,7 +53,7 @@ fn dependencies(alloc: Global, values: &Values<'_>, id: NameId) -> Result<Vec<Na
     Ok(found)
 }
 
-/// Whether one of some signals depends on one of others, which isn't one of them.
+/// Whether one of the signals depends on one of the others that isn't among the signals itself.
 fn depend(
     alloc: Global,
     values: &Values<'_>,
@@ -71,7 +71,7 @@ fn depend(
     Ok(false)
 }
 
-/// Whether one of some signals depends on one of any list, which isn't one of them.
+/// Whether one of the signals depends on one in any list that isn't among the signals itself.
 fn depend_on_any(
     alloc: Global,
     values: &Values<'_>,
@@ -86,7 +86,7 @@ fn depend_on_any(
     Ok(false)
 }
 
-/// The place of the first list of signals that depend on no other list's signals, and 0 where there is none.
+/// The place of the first list of signals that depend on no other list's signals, and 0 if there is none.
 pub fn first_alone(
     alloc: Global,
     values: &Values<'_>,

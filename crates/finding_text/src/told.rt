@@ -1,4 +1,4 @@
-//! What each signal of an obligation picks, and what is wanted.
+//! Writes what each signal of an obligation picks, and what is required.
 use crate::values::Values;
 use crate::words::put_value;
 use ctl_atoms::{AtomKind, Leaf};
@@ -19,7 +19,7 @@ pub fn put_leaf(
     }
 }
 
-/// Writes what a signal picks and what is wanted, as a sentence.
+/// Writes what a signal picks and what is required, as a sentence.
 pub fn put_finding(
     out: &mut String,
     values: &Values<'_>,
@@ -46,7 +46,7 @@ pub fn put_finding(
     }
 }
 
-/// Writes the findings that aren't right, with a blank between two, and says whether there are any.
+/// Writes the findings that aren't right, with a blank between two, and returns whether there are any.
 pub fn put_wrong_findings(
     out: &mut String,
     values: &Values<'_>,
@@ -63,7 +63,7 @@ pub fn put_wrong_findings(
     Ok(!is_first)
 }
 
-/// Whether the value of a name is worth telling: constants and words that stand for themselves aren't.
+/// Whether the value of a name is worth printing. Constants aren't, nor words that stand for themselves.
 fn is_told(values: &Values<'_>, id: NameId) -> bool {
     match values.rows.get(id as usize) {
         Some(row) => match &row.role {
@@ -78,7 +78,7 @@ fn is_told(values: &Values<'_>, id: NameId) -> bool {
     }
 }
 
-/// The names in the definition of a signal, each once, whose values are worth telling.
+/// The names in the definition of a signal whose values are worth printing, each once.
 pub fn names_read(
     alloc: Global,
     values: &Values<'_>,

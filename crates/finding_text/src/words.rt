@@ -68,12 +68,12 @@ fn after_stage(name: &str) -> &str {
     }
 }
 
-/// The name of a register that a signal names, also where it names none.
+/// The name of the register that a signal names, or `RNONE` if it names none.
 fn register_or_none(n: u64) -> Option<&'static str> {
     if n == 15 { Some("RNONE") } else { register(n) }
 }
 
-/// The name that a number of this signal has: a constant of HCL, or a register.
+/// The name of a number that this signal can have: a constant of HCL, or a register.
 pub fn value_name(signal: &str, n: u64) -> Option<&'static str> {
     match after_stage(signal) {
         "icode" => entry(&ICODES, n),

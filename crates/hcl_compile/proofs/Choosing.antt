@@ -1,4 +1,4 @@
--- Decisions of terms from those of their parts.
+-- How the decision of a term follows from those of its parts: tests, branches, lists of terms and members.
 use Rattle.std.proofs.Common.{◌≡◌, ◌+◌, ◌<◌, ◌≤◌, ◌&&◌, ◌||◌, nat_eq, not, ℕ, Bool, true, false, if◌then◌else◌, List, [], ◌∷◌, ◌++◌, length, map, drop, get_or, refl, sym, ap, subst, ◌∙◌, arith}
 use Rattle.std.proofs.lemmas.List.{drop_more}
 use Rattle.std.specs.Prelude.{MatchOption, None, Option, Some}
@@ -21,7 +21,7 @@ negated : (to : Targets) (b : Bool) → chosen to (not b) ≡ chosen (swapped to
 negated to true = refl
 negated to false = refl
 
--- two truths of which both are needed, or one
+-- both of two truths, or at least one
 abbrev joins : Quantifier → Bool → Bool → Bool
 joins All a b = a && b
 joins Any a b = a || b
@@ -31,7 +31,7 @@ quantified_more All p x xs = refl
 quantified_more Any p x xs = refl
 
 module _ (constants : List ℕ) where
-  -- the same decision of an equal test that needs more rows
+  -- a decision of one test also decides an equal test that needs at least the same rows
   pub decides_as : (ids jds : List ℕ) (f g : (ℕ → ℕ) → Bool) (old new : Decisions) (to : Targets) (place : ℕ) → Decides constants ids f old new to place
       → ((rows : ℕ) → Within rows jds → Within rows ids) → ((env : ℕ → ℕ) (rows : ℕ) → Begins constants env rows → Within rows jds → g env ≡ f env)
       → Decides constants jds g old new to place
@@ -55,7 +55,7 @@ module _ (constants : List ℕ) where
     leads = λ env rows word begins within c. d.leads env rows word begins within (subst (λ x. Comes env rows old x word) (negated to (f env)) c);
   }
 
-  -- one more test in front of others
+  -- another test in front of others
   pub decides_more : (q : Quantifier) (ids jds : List ℕ) (f g : (ℕ → ℕ) → Bool) (old mid new : Decisions) (to : Targets) (rest place : ℕ) → Decides constants jds g old mid to rest
       → Decides constants ids f mid new (ahead_of q rest to) place → Decides constants (ids ++ jds) (λ env. joins q (f env) (g env)) old new to place
   decides_more q ids jds f g old mid new to rest place d h = record {
@@ -71,7 +71,7 @@ module _ (constants : List ℕ) where
       by Any true e env rows word s c = d.keeps env rows to.hit word c
       by Any false e env rows word s c = s c
 
-  -- one more branch in front of others
+  -- another branch in front of others
   pub valued_branch : (ids jds kds : List ℕ) (f : (ℕ → ℕ) → Bool) (g h : (ℕ → ℕ) → ℕ) (old mid later new : Decisions) (rest taken place : ℕ) → IsValued constants kds h old mid rest
       → IsValued constants jds g mid later taken → Decides constants ids f later new (record { hit = taken; miss = rest }) place
       → IsValued constants ((ids ++ jds) ++ kds) (λ env. if f env then g env else h env) old new place
@@ -100,7 +100,7 @@ drop_whole [] = refl
 drop_whole (x ∷ xs) = drop_whole xs
 
 module _ (constants : List ℕ) (old new : Decisions) (to : Targets) (place : ℕ) where
-  -- a test of a term whose value is that truth
+  -- a decision of `f` tests each term whose value is that truth
   pub test_as : (ids : List ℕ) (f : (ℕ → ℕ) → Bool) (t : Term) → Decides constants ids f old new to place → names t ≡ ids → ((env : ℕ → ℕ) → value word_meaning env t ≡ word_meaning.bool (f env))
       → IsTest constants t old new to place
   test_as ids f t d n v = decides_as constants ids (names t) f (λ env. word_meaning.holds (value word_meaning env t)) old new to place d (λ rows w. subst (Within rows) n w)
@@ -142,19 +142,19 @@ module _ (constants : List ℕ) (old new : Decisions) (to : Targets) (place : �
         d.leads env rows word begins (is.0, tt) (subst (λ x. Comes env rows old x word) (ap (λ x. chosen to (word_meaning.holds x)) is.1 ∙ negated to (nat_eq (env id) 0)) c);
   }
 
--- a test that is made behind other nodes
+-- a test whose nodes follow others that were appended first
 pub test_behind : (constants : List ℕ) (t : Term) (old mid new : Decisions) (to : Targets) (place : ℕ) → Keeps old mid → IsTest constants t mid new to place → IsTest constants t old new to place
 test_behind constants t old mid new to place k d = record {
   keeps = keeps_both old mid new k d.keeps;
   leads = λ env rows word begins within c. d.leads env rows word begins within (k env rows (chosen to (word_meaning.holds (value word_meaning env t))) word c);
 }
 
--- where a decision gives another one, one that may be there gives another that may
+-- if each Q gives an R, then an optional Q gives an optional R
 pub may_so : (P : Type 0) (Q R : ℕ → Type 0) (found : Option ℕ) → ((place : ℕ) → Q place → R place) → MatchOption found P Q → MatchOption found P R
 may_so P Q R None so k = k
 may_so P Q R (Some place) so d = so place d
 
--- ---- terms from the last: whether all or any of their values pass a test, which needs the rows of ids
+-- ---- lists of terms, from the last: whether the values of all or any of them pass a test, which needs the rows of ids
 
 abbrev pub IsRest : List ℕ → Quantifier → (Term → List ℕ) → ((ℕ → ℕ) → ℕ → Bool) → List Term → ℕ → Decisions → Decisions → Targets → ℕ → Type 0
 IsRest constants q ids p ts left old new to place =
@@ -189,7 +189,7 @@ module _ (constants : List ℕ) (q : Quantifier) (ids : Term → List ℕ) (p : 
       → Decides constants (joined (map ids ts)) (λ env. quantified q (p env) (map (value word_meaning env) ts)) old new to place
   rest_end new left place d e = subst (λ k. Decides constants (joined (map ids (drop k ts))) (λ env. quantified q (p env) (map (value word_meaning env) (drop k ts))) old new to place) e d.1
 
--- ---- members, each of which is compared with one term
+-- ---- membership: one term is compared with each member
 
 within_each : (rows : ℕ) (xs : List ℕ) (ts : List Term) → Within rows (xs ++ joined (map names ts)) → Within rows (joined (map (λ t. xs ++ names t) ts))
 within_each rows xs [] w = tt

@@ -17,7 +17,7 @@ use Rattle.hcl_compile.specs.Making.{Comes, Decides, IsAdded, IsTest, IsValue, K
 use Rattle.hcl_compile.specs.Walks.{at_value, at_node, HasAnswer, answer, code_answer, yes_or_no}
 use Rattle.hcl_compile.proofs.Walked.{append_gets, inside, kept, question_end}
 
--- ---- what was there keeps its words
+-- ---- earlier walks end with the same words
 
 pub keeps_all : (d : Decisions) → Keeps d d
 keeps_all d env rows target word c = c
@@ -52,7 +52,7 @@ module _ (node : Node) (old new : Decisions) (place : ℕ) (added : IsAdded node
       found : length old.nodes.items ≡ place → slice_get (old.nodes.items ++ node ∷ []) place ≡ Some node
       found e = slice_get-get_or (old.nodes.items ++ node ∷ []) place node (omega (arith, length-append old.nodes.items (node ∷ []))) ∙ ap (λ x. Some x) (get_or_at old.nodes.items node [] node place e)
 
-  -- it leads where its answer does
+  -- a walk from it goes on to the target of its answer
   pub added_leads : (env : ℕ → ℕ) (rows word target : ℕ) → HasAnswer rows new.terms.items node.ask → at node.next (answer env new.terms.items node.ask) ≡ target
       → Comes env rows old target word → Comes env rows new place word
   added_leads env rows word target has is c =
@@ -63,7 +63,7 @@ module _ (node : Node) (old new : Decisions) (place : ℕ) (added : IsAdded node
   pub added_value : (env : ℕ → ℕ) (rows k : ℕ) → node.ask ≡ Value k → k < length new.terms.items → Comes env rows new place (value word_meaning env (term_at new.terms.items k))
   added_value env rows k asks within = at_value place (value word_meaning env (term_at new.terms.items k)) k node added.1 added_found asks within refl
 
--- where a question of yes or no leads
+-- where a yes-no question leads
 yes_no_target : (to : Targets) (next : List ℕ) (b : Bool) → at (to.hit ∷ to.miss ∷ next) (yes_or_no b) ≡ chosen to b
 yes_no_target to next true = refl
 yes_no_target to next false = refl
@@ -77,7 +77,7 @@ put_same_decides left right to old new place next added constants = record {
       (yes_no_target to next (nat_eq (env left) (env right))) c;
 }
 
--- ---- terms that nodes ask as they are
+-- ---- nodes that evaluate a whole term
 
 term_added : (old new : List Term) (t : Term) (k : ℕ) → k ≡ length old → new ≡ old ++ t ∷ [] → (k < length new) × (term_at new k ≡ t)
 term_added old new t k e n = (omega (arith, e, ap length n, length-append old (t ∷ [])), ap (λ xs. term_at xs k) n ∙ get_or_at old t [] (Num 0) k (sym e))
@@ -114,7 +114,7 @@ put_term_ends t old mid new k place next grown added constants = record {
 
 -- ---- nodes that ask for a code
 
--- from the target a walk whose row has that answer leads on to the place
+-- if the row gives this answer, a walk from the place ends as one from the target does
 abbrev pub Passes : Decisions → ℕ → ℕ → ℕ → ℕ → Type 0
 Passes d name answer target place = (env : ℕ → ℕ) (rows word : ℕ) → code_answer (env name) ≡ answer → Comes env rows d target word → Comes env rows d place word
 
@@ -152,7 +152,7 @@ put_code_decides name code to old new place next upto low all whole added consta
       (subst (λ b. Comes env rows old (chosen to b) word) (sym (same_code (env name) code low)) c));
 }
 
--- past a node that asks for the same code
+-- skipping a node that asks for the same code, whose answer is known
 pub past_node : (d : Decisions) (name answer target : ℕ) (node : Node) → target < ROWS → slice_get d.nodes.items target ≡ Some node → node.ask ≡ Code name
     → Passes d name answer target (at node.next answer)
 past_node d name answer' target node low found asks env rows word is c =

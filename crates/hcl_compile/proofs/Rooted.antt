@@ -36,7 +36,7 @@ rooted_more constants old new ts t index root roots more h s r v e =
 pub rooted_end : (constants : List ℕ) (d : Decisions) (ts : List Term) (index : ℕ) (roots : List ℕ) → length ts ≤ index → Rooted constants d (take index ts) roots → Rooted constants d ts roots
 rooted_end constants d ts index roots h r = subst (λ xs. Rooted constants d xs roots) (take_all index ts h) r
 
--- ---- what an evaluator is asked
+-- ---- the root of a definition, and how its walk ends
 
 some_of : (t u : Term) → Some t ≡ Some u → t ≡ u
 some_of t u e = cc

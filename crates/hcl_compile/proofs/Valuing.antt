@@ -48,7 +48,7 @@ number_known t n e env = ap (value word_meaning env) e ∙ value_Num word_meanin
 
 -- ---- values
 
--- a term other than a number, a name and a case list is worth a truth
+-- a term is worth a truth unless it is a number, a name or a case list
 abbrev pub TruthUnless : Term → Type 0
 TruthUnless t = ((n : ℕ) → t ≢ Num n) → ((id : ℕ) → t ≢ Name id) → ((bs : List TermBranch) → t ≢ Case bs) → IsTruth t
 

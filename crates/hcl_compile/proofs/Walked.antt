@@ -1,4 +1,4 @@
--- A walk, step by step, and what stays of it as nodes are appended.
+-- Walks, step by step, and why they stay the same when nodes are appended.
 use Rattle.std.proofs.Common.{◌≡◌, ◌≢◌, ◌+◌, ◌-◌, ◌<◌, ◌≤◌, ℕ, zero, suc, List, [], ◌∷◌, ◌++◌, length, get_or, refl, sym, ap, subst, ◌∙◌, arith}
 use Rattle.std.proofs.lemmas.Bool.{le-leb, lt-leb}
 use Rattle.std.proofs.lemmas.Option.{slice_get-get_or, slice_get_within}
@@ -92,13 +92,13 @@ append_gets [] ys k x e = absurd (cc)
 append_gets (y ∷ xs) ys zero x e = e
 append_gets (y ∷ xs) ys (suc k) x e = append_gets xs ys k x e
 
--- ---- a walk under way: it ends, and as it does from its target
+-- ---- a walk from a target that has reached a place: it ends, and with the same word as from its target
 
 pub record IsUnderWay (env : ℕ → ℕ) (rows : ℕ) (terms : List Term) (nodes : List Node) (target place : ℕ) : Type 0 where
   pub ends : (word : ℕ) × Ends env rows terms nodes place word
   pub same : (word : ℕ) → Ends env rows terms nodes target word → Ends env rows terms nodes place word
 
--- what is read past the last node
+-- the node that a read past the last one yields
 abbrev pub other : Node
 other = record { ask = Code 0; next = [] }
 

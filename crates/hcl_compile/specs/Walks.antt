@@ -13,30 +13,31 @@ use Rattle.hcl_compile.specs.declared.node.Node.{Node}
 abbrev pub code_answer : ℕ → ℕ
 code_answer code = if nat_lt code 16 then code else 16
 
--- the answer to a question of yes or no
+-- the answer to a yes-no question
 abbrev pub yes_or_no : Bool → ℕ
 yes_or_no holds = if holds then 0 else 1
 
--- the answer to what a node asks, under the values of names; terms: those that nodes ask as they are
+-- the answer to a node's question, under the values of names; terms: those that nodes evaluate as a whole
 abbrev pub answer : (ℕ → ℕ) → List Term → Ask → ℕ
 answer env terms (Code name) = code_answer (env name)
 answer env terms (Same left right) = yes_or_no (nat_eq (env left) (env right))
 answer env terms (Holds k) = yes_or_no (word_meaning.holds (value word_meaning env (term_at terms k)))
 answer env terms (Value k) = 0
 
--- a question that has its rows among so many, or its term
+-- the rows that a question reads exist, or its term does; a node that asks nothing has no answer
 abbrev pub HasAnswer : ℕ → List Term → Ask → Type 0
 HasAnswer rows terms (Code name) = name < rows
 HasAnswer rows terms (Same left right) = (left < rows) × (right < rows)
 HasAnswer rows terms (Holds k) = k < length terms
 HasAnswer rows terms (Value k) = ⊥
 
--- how many nodes a walk from a target passes at most
+-- the most nodes that a walk from a target can pass
 abbrev pub steps : ℕ → ℕ
 steps target = if nat_le ROWS target then 0 else target + 1
 
--- Under the values of so many rows the walk from a target ends with a word: at a row, with its value; at a node that asks nothing, with
--- the value of its term; at any other, with the word of the target to which the answer leads, which is nearer to the end.
+-- Under the values of this number of rows the walk from a target ends with a word: at a row, with its value; at a node
+-- that asks nothing, with the value of its term; at any other node, with the word of the target that its answer leads
+-- to, which is nearer to the end.
 pub data Ends (env : ℕ → ℕ) (rows : ℕ) (terms : List Term) (nodes : List Node) : ℕ → ℕ → Type 0 where
   at_row : (target word : ℕ) → ROWS ≤ target → target - ROWS < rows → word ≡ env (target - ROWS) → Ends env rows terms nodes target word
   at_value : (target word k : ℕ) (node : Node) → target < ROWS → slice_get nodes target ≡ Some node → node.ask ≡ Value k → k < length terms
@@ -45,12 +46,12 @@ pub data Ends (env : ℕ → ℕ) (rows : ℕ) (terms : List Term) (nodes : List
       → steps (at node.next (answer env terms node.ask)) ≤ target → Ends env rows terms nodes (at node.next (answer env terms node.ask)) word
       → Ends env rows terms nodes target word
 
--- the first of so many rows have these words
+-- the first rows hold the constants, and there are at least as many rows as constants
 pub record Begins (constants : List ℕ) (env : ℕ → ℕ) (rows : ℕ) : Type 0 where
   pub constant : (k : ℕ) → k < length constants → env k ≡ at constants k
   pub room : length constants ≤ rows
 
--- each id is one of so many rows
+-- each id is below the number of rows
 abbrev pub Within : ℕ → List ℕ → Type 0
 Within rows ids = AllByRecursion (λ id. id < rows) ids
 

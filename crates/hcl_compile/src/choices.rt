@@ -1,4 +1,4 @@
-//! Decisions of terms.
+//! Compiles terms: decision nodes that test a term, or lead to its value.
 ghost use Rattle.std.specs.Prelude.{◌++◌, IfOk, map};
 ghost use Rattle.hcl_types.specs.declared.term.Term.TheVariants.{Cmp, In};
 ghost use Rattle.hcl_types.specs.Terms.{branch_names, branch_value, joined, names, picked, value, word_meaning};
@@ -12,8 +12,8 @@ use hcl_types::{CmpOp, Term, TermBranch};
 use std::alloc::Global;
 use y86_base::Memory;
 
-/// Makes the decision of whether a term holds, and tells where it begins. Decisions are made from the last one, so that each knows where
-/// it leads.
+/// Makes the nodes that decide whether a term holds, and returns the target where they begin. Decisions are made from
+/// the last one, so that the targets of each are known.
 #[cycle(testing)]
 fn put_test(
     alloc: Global,
@@ -32,7 +32,7 @@ fn put_test(
     }
 }
 
-/// Whether all of some terms hold, or any of them.
+/// Decides whether all terms of a list hold, or any of them.
 #[cycle(testing)]
 fn put_terms(
     alloc: Global,
@@ -59,7 +59,8 @@ fn put_terms(
     Ok(place)
 }
 
-/// Whether a term holds that isn't divided into tests: by nodes that ask rows where they can, and else by one that asks the term as it is.
+/// Decides whether a term that isn't divided into tests holds: if possible by nodes that read rows, and otherwise by a
+/// node that evaluates the whole term.
 fn put_undivided(
     alloc: Global,
     t: &Term,
@@ -75,7 +76,7 @@ fn put_undivided(
     }
 }
 
-/// Whether a term holds, where nodes can ask rows for it.
+/// Decides by reading rows whether a term holds, if nodes can.
 fn put_by_rows(
     t: &Term,
     constants: &[u64],
@@ -92,7 +93,7 @@ fn put_by_rows(
     }
 }
 
-/// Whether a number or a name holds.
+/// Decides whether a number or a name holds.
 fn put_operand(
     t: &Term,
     constants: &[u64],
@@ -108,7 +109,7 @@ fn put_operand(
     }
 }
 
-/// Whether `x op y` holds.
+/// Decides whether `x op y` holds.
 fn put_comparison(
     op: CmpOp,
     x: &Term,
@@ -126,7 +127,7 @@ fn put_comparison(
     }
 }
 
-/// Whether `x in { all }` holds: `x` is compared with the members from the last on.
+/// Decides whether `x in { all }` holds: `x` is compared with the members, from the last on.
 fn put_membership(
     x: &Term,
     all: &[Term],
@@ -154,7 +155,7 @@ fn put_membership(
     Ok(Some(place))
 }
 
-/// The value of a term that is a truth: 1 where it holds, and else 0.
+/// Leads to the value of a term that is a truth: 1 if it holds, otherwise 0.
 fn put_truth(alloc: Global, t: &Term, constants: &[u64], d: &mut Decisions) -> Result<u32, Memory>
     requires { IsTruth t.now }
     ensures { IfOk result (IsValue constants.now t.now d.old d.new) }
@@ -171,7 +172,7 @@ fn put_truth(alloc: Global, t: &Term, constants: &[u64], d: &mut Decisions) -> R
     }
 }
 
-/// Makes the decision that leads to the value of a term, and tells where it begins.
+/// Makes the nodes that lead to the value of a term, and returns the target where they begin.
 #[cycle(valuing)]
 pub fn put_value(
     alloc: Global,
@@ -194,7 +195,7 @@ pub fn put_value(
     }
 }
 
-/// The value of the first of some branches whose guard holds, or else that at `none`, which is 0.
+/// Leads to the value of the first branch whose guard holds, or to the value at `none`, which is 0.
 #[cycle(valuing)]
 fn put_case(
     alloc: Global,

@@ -1,4 +1,4 @@
-//! The definitions of a design, compiled.
+//! Compiles the definitions of a design to decision nodes.
 ghost use Rattle.std.specs.Prelude.{◌≡◌, ◌++◌, IfOk, OnOk, [], ◌∷◌};
 ghost use Rattle.hcl_compile.specs.Walks.{AreRoots};
 
@@ -18,7 +18,7 @@ fn put_root(root: u32, roots: &mut Vec<u32>) -> Result<(), Memory>
     Ok(())
 }
 
-/// Where the walk of each of some terms begins.
+/// The target where the walk of each term begins.
 fn put_roots(
     alloc: Global,
     all: &[Term],
@@ -35,7 +35,7 @@ fn put_roots(
     Ok(roots)
 }
 
-/// The constants in memory of their own.
+/// The constants, copied to memory of their own.
 fn copied(alloc: Global, constants: &[u64]) -> Result<Vec<u64>, Memory>
     ensures { IfOk result (λ copy. copy.items ≡ constants.now) }
 {
@@ -45,9 +45,9 @@ fn copied(alloc: Global, constants: &[u64]) -> Result<Vec<u64>, Memory>
     }
 }
 
-/// The definitions of a design as decision nodes: the evaluator takes no memory afterwards. The first rows of the values that it is asked
-/// under are to be the constants, so these are computed with as numbers here. The names of other definitions are rows, which have their
-/// values once those were computed, in the sequence of the order.
+/// Compiles the definitions of a design to decision nodes, so that the evaluator needs no memory afterwards. The first
+/// rows of the values must be the constants, because the nodes compute with them as numbers. The names of other
+/// definitions are rows, which have their values once those are computed, in the sequence of the order.
 pub fn compile(
     alloc: Global,
     design: &Design,

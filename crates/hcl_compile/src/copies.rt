@@ -1,11 +1,11 @@
-//! Copies of terms.
+//! Copies terms: nodes that evaluate a whole term keep a copy of it.
 ghost use Rattle.std.specs.Prelude.{◌≡◌, IfOk};
 
 use hcl_types::{Term, TermBranch};
 use std::alloc::Global;
 use y86_base::{Boxed, Items, Memory};
 
-/// A term once more.
+/// A copy of a term.
 #[cycle(copying)]
 pub fn copy_term(alloc: Global, t: &Term) -> Result<Term, Memory>
     ensures { IfOk result (λ copy. copy ≡ t.now) }

@@ -1,4 +1,4 @@
-//! Decision nodes as they are made.
+//! Appends decision nodes to those made so far.
 ghost use Rattle.std.specs.Prelude.{◌≡◌, ◌<◌, ◌++◌, nat_eq, IfOk, List, ℕ, [], ◌∷◌, length};
 ghost use Rattle.hcl_compile.specs.declared.node.TheConstants.{ROWS};
 ghost use Rattle.hcl_compile.specs.Making.{Comes, Decides, IsAdded, IsTest, IsValue};
@@ -11,14 +11,14 @@ use hcl_types::{NameId, Term};
 use std::alloc::Global;
 use y86_base::Memory;
 
-/// Nodes, and the terms that they ask as they are.
+/// Nodes, and the terms that they evaluate as a whole.
 #[derive(Debug, Drop)]
 pub struct Decisions {
     pub nodes: Vec<Node>,
     pub terms: Vec<Term>,
 }
 
-/// Appends a node, and tells its place. So many nodes that a place would be a row want more memory than there is.
+/// Appends a node, and returns its place. If no place below `ROWS` is left, it reports that memory is out.
 fn put(node: Node, d: &mut Decisions) -> Result<u32, Memory>
     ensures { IfOk result (IsAdded node d.old d.new) }
 {
@@ -29,7 +29,7 @@ fn put(node: Node, d: &mut Decisions) -> Result<u32, Memory>
     Ok(place as u32)
 }
 
-/// Appends a node that leads to one target where its question is answered by yes, and else to another.
+/// Appends a node that leads to one target if the answer to its question is yes, and otherwise to another.
 fn put_question(ask: Ask, to: Targets, d: &mut Decisions) -> Result<u32, Memory>
     ensures { IfOk result (λ place. (next : List ℕ) × IsAdded (record { ask = ask; next = to.hit ∷ to.miss ∷ next }) d.old d.new place) }
 {
@@ -42,7 +42,8 @@ fn put_question(ask: Ask, to: Targets, d: &mut Decisions) -> Result<u32, Memory>
     )
 }
 
-/// Where an answer to the code in a row leads from a target: past a node that asks for the same code.
+/// Where the walk from a target goes on if the answer to the code in a row is known: past a node that asks for the same
+/// code.
 fn past(target: u32, name: NameId, answer: u64, d: &Decisions) -> u32
     requires { answer < 17 }
     ensures { (env : ℕ → ℕ) (rows word : ℕ) → code_answer (env name) ≡ answer → Comes env rows d.now target word → Comes env rows d.now result word }
@@ -65,7 +66,7 @@ fn past(target: u32, name: NameId, answer: u64, d: &Decisions) -> u32
     }
 }
 
-/// Whether the code in a row is this one.
+/// Decides whether the code in a row is this one.
 pub fn put_code(name: NameId, code: u64, to: Targets, d: &mut Decisions) -> Result<u32, Memory>
     requires { code < 16 }
     ensures { (constants : List ℕ) → IfOk result (Decides constants (name ∷ []) (λ env. nat_eq (env name) code) d.old d.new to) }
@@ -82,14 +83,14 @@ pub fn put_code(name: NameId, code: u64, to: Targets, d: &mut Decisions) -> Resu
     put(node, d)
 }
 
-/// Whether two rows have one value.
+/// Decides whether two rows have the same value.
 pub fn put_same(left: NameId, right: NameId, to: Targets, d: &mut Decisions) -> Result<u32, Memory>
     ensures { (constants : List ℕ) → IfOk result (Decides constants (left ∷ right ∷ []) (λ env. nat_eq (env left) (env right)) d.old d.new to) }
 {
     put_question(Ask::Same(left, right), to, d)
 }
 
-/// Adds a term that a node asks as it is, and tells its place.
+/// Adds a term that a node evaluates as a whole, and returns its place.
 fn add_term(alloc: Global, t: &Term, d: &mut Decisions) -> Result<u32, Memory>
     ensures { IfOk result (λ k. (k ≡ length d.old.terms.items) × (d.new.terms.items ≡ d.old.terms.items ++ t.now ∷ []) × (d.new.nodes.items ≡ d.old.nodes.items)) }
 {
@@ -101,7 +102,7 @@ fn add_term(alloc: Global, t: &Term, d: &mut Decisions) -> Result<u32, Memory>
     Ok(k as u32)
 }
 
-/// Whether a term holds, which is walked as it is.
+/// Decides whether a term holds, by a node that evaluates the whole term.
 pub fn put_term(alloc: Global, t: &Term, to: Targets, d: &mut Decisions) -> Result<u32, Memory>
     ensures { (constants : List ℕ) → IfOk result (IsTest constants t.now d.old d.new to) }
 {
@@ -109,7 +110,7 @@ pub fn put_term(alloc: Global, t: &Term, to: Targets, d: &mut Decisions) -> Resu
     put_question(Ask::Holds(k), to, d)
 }
 
-/// The value of a term, which is walked as it is.
+/// Leads to the value of a term, by a node that evaluates the whole term.
 pub fn put_term_value(alloc: Global, t: &Term, d: &mut Decisions) -> Result<u32, Memory>
     ensures { (constants : List ℕ) → IfOk result (IsValue constants t.now d.old d.new) }
 {

@@ -1,4 +1,4 @@
-//! Equality of two operands.
+//! Compiles the equality of two operands.
 ghost use Rattle.std.specs.Prelude.{◌≡◌, ◌++◌, nat_eq, IfOk};
 ghost use Rattle.hcl_types.specs.Terms.{names, value, word_meaning};
 ghost use Rattle.hcl_compile.specs.Making.{IsEquality, IsSmall, MayDecide, code_equality};
@@ -9,7 +9,7 @@ use crate::targets::Targets;
 use hcl_types::{NameId, Term};
 use y86_base::Memory;
 
-/// What the equality of two words comes to.
+/// What a node must ask to know whether two words are equal. `Other` is nothing that a node can ask of rows.
 #[derive(Clone, Copy, Debug, PartialEq, Eq)]
 pub enum Equality {
     Known(bool),
@@ -45,7 +45,7 @@ fn compared(x: &Term, y: &Term, constants: &[u64]) -> Equality
     }
 }
 
-/// Whether two terms are equal, where nodes can ask for it.
+/// Decides whether two terms are equal, if nodes can ask for it.
 pub fn put_equal(
     x: &Term,
     y: &Term,

@@ -1,4 +1,4 @@
-//! HCL definitions compiled to decision nodes, and the evaluator that walks them.
+//! Compiles HCL definitions to decision nodes, and evaluates a design by walking them, which takes no memory.
 #![tactic(auto)]
 
 mod choices;

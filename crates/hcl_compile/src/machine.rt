@@ -1,4 +1,4 @@
-//! Walks decision nodes.
+//! The evaluator: walks decision nodes.
 ghost use Rattle.std.specs.Prelude.{◌≡◌, ◌<◌, ℕ, length};
 ghost use Rattle.hcl_types.specs.Terms.{at};
 ghost use Rattle.hcl_compile.specs.Walks.{AreRoots, Ends, HasAnswer, answer, code_answer, yes_or_no};
@@ -22,7 +22,7 @@ fn to_answer(holds: bool) -> u64
     if holds { 0 } else { 1 }
 }
 
-/// The answer to what a node asks.
+/// The answer to a node's question.
 #[inline(always)]
 fn answer_to(ask: Ask, terms: &[Term], vals: &[u64]) -> u64
     requires { HasAnswer (length vals.now) terms.now ask }
@@ -55,8 +55,8 @@ fn walk_on(nodes: &[Node], terms: &[Term], vals: &[u64], target: u32) -> u64
     vals[(place - ROWS) as usize]
 }
 
-/// The word with which the walk from a target ends. Nodes ask about codes and equal rows mostly; where one asks for a
-/// term, the walk goes on elsewhere.
+/// The word with which the walk from a target ends. Most nodes ask about codes and equal rows; if one asks for a term,
+/// `walk_on` goes on from it.
 #[inline(always)]
 fn walk(nodes: &[Node], terms: &[Term], vals: &[u64], target: u32) -> u64
     requires ends { (word : ℕ) × Ends (at vals.now) (length vals.now) terms.now nodes.now target word }

@@ -2,19 +2,19 @@
 use hcl_types::{NameId, Term};
 use y86_base::Items;
 
-/// A target from here on is a row of the values, counted from here; one below is a node.
+/// A target from here on is a row of the values, counted from here; a smaller one is a node.
 pub const ROWS: u32 = 134_217_728;
 
 /// What a node asks of the values. The answer chooses the entry of its jump table.
 #[derive(Clone, Copy, Debug, PartialEq, Eq)]
 pub enum Ask {
-    /// The code in a row: the answer is the code itself where it is below 16, and else 16.
+    /// The code in a row: the answer is the code itself if it is below 16, and otherwise 16.
     Code(NameId),
     /// Whether two rows have one value: 0 is yes, 1 is no.
     Same(NameId, NameId),
-    /// Whether a term holds, which is given by its place among the terms that are walked as they are: 0 is yes, 1 is no.
+    /// Whether a term holds: 0 is yes, 1 is no. The number is its place among the terms that nodes evaluate as a whole.
     Holds(u32),
-    /// Nothing: the walk ends here with the value of a term, which is given in the same way.
+    /// Nothing: the walk ends here with the value of a term, whose place is given in the same way.
     Value(u32),
 }
 
@@ -25,13 +25,13 @@ pub struct Node {
     pub next: [u32; 17],
 }
 
-/// The definitions of a design, compiled: for each the target where its walk begins, in table order.
+/// The compiled definitions of a design. `roots` has the target where the walk of each begins, in table order.
 #[derive(Debug, Drop)]
 pub struct Compiled {
-    /// The words of the first rows, with which the nodes were made.
+    /// The words of the first rows, which the nodes were made for.
     pub constants: Items<u64>,
     pub roots: Items<u32>,
     pub nodes: Items<Node>,
-    /// The terms that nodes ask as they are.
+    /// The terms that nodes evaluate as a whole.
     pub terms: Items<Term>,
 }

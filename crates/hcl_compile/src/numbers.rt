@@ -1,4 +1,4 @@
-//! Numbers and names as operands, and the rows where they stand.
+//! Numbers and names as operands, and the rows that hold their values.
 ghost use Rattle.std.specs.Prelude.{◌≡◌, ◌+◌, IfSome, List, ℕ};
 ghost use Rattle.hcl_types.specs.declared.term.Term.{Term};
 ghost use Rattle.hcl_compile.specs.declared.node.Node.{Node};
@@ -9,10 +9,10 @@ ghost use Rattle.hcl_types.specs.Terms.{names, value, word_meaning};
 use crate::node::ROWS;
 use hcl_types::{NameId, Term};
 
-/// A row from here on has no target.
+/// Rows from here on have no target.
 const FARTHEST: u32 = u32::MAX - ROWS;
 
-/// What stands at one side of a comparison.
+/// One side of a comparison.
 #[derive(Clone, Copy, Debug, PartialEq, Eq)]
 pub enum Operand {
     /// A number, or the name of a constant.
@@ -36,7 +36,7 @@ pub fn read_operand(t: &Term, constants: &[u64]) -> Operand
     }
 }
 
-/// The target of the first constant that is this number, where one is.
+/// The target of the first constant that is this number, if there is one.
 pub fn number_target(n: u64, constants: &[u64]) -> Option<u32>
     ensures { IfSome result (IsNumber constants.now n) }
 {
@@ -48,7 +48,7 @@ pub fn number_target(n: u64, constants: &[u64]) -> Option<u32>
     None
 }
 
-/// The target of a number or of a name, where one is.
+/// The target of a number or of a name, if it has one.
 pub fn operand_target(t: &Term, constants: &[u64]) -> Option<u32>
     ensures { IfSome result (λ target. (terms : List Term) (nodes : List Node) (env : ℕ → ℕ) (rows : ℕ) → Begins constants.now env rows → Within rows (names t.now) → Ends env rows terms nodes target (value word_meaning env t.now)) }
 {

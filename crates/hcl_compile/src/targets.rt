@@ -1,8 +1,8 @@
-//! Where tests lead.
+//! The two targets of a test.
 ghost use Rattle.std.specs.Prelude.{◌≡◌};
 ghost use Rattle.hcl_compile.specs.Making.{ahead_of, chosen, of_none, swapped};
 
-/// One target where a test is true, and else another.
+/// One target if a test is true, another if it is false.
 #[derive(Clone, Copy, Debug, PartialEq, Eq)]
 pub struct Targets {
     pub hit: u32,
@@ -17,7 +17,7 @@ impl Targets {
         if test { self.hit } else { self.miss }
     }
 
-    /// The targets the other way round, as those of the negated test.
+    /// The targets exchanged, as for the negated test.
     pub fn swapped(self) -> Targets
         ensures { result ≡ swapped self }
     {
@@ -28,7 +28,7 @@ impl Targets {
     }
 }
 
-/// Which of some terms have to hold.
+/// Which terms of a list have to hold.
 #[derive(Clone, Copy, Debug, PartialEq, Eq)]
 pub enum Quantifier {
     All,
@@ -36,7 +36,7 @@ pub enum Quantifier {
 }
 
 impl Quantifier {
-    /// Where an empty list leads: all of its terms hold, but not any.
+    /// Where an empty list leads: all of its terms hold, and there is none that holds.
     pub fn of_none(self, to: Targets) -> u32
         ensures { result ≡ of_none self to }
     {
@@ -46,7 +46,7 @@ impl Quantifier {
         }
     }
 
-    /// The targets of a term, where the decision of the terms after it begins at `rest`.
+    /// The targets of a term, if the decision of the terms after it begins at `rest`.
     pub fn ahead_of(self, rest: u32, to: Targets) -> Targets
         ensures { result ≡ ahead_of self rest to }
     {

@@ -1,4 +1,4 @@
--- The faults of items, each from binding it alone.
+-- The faults of items: binding each item alone finds its fault.
 use Rattle.std.proofs.Common.{◌≡◌, ◌≢◌, ℕ, suc, Bool, true, false, not, ◌&&◌, if◌then◌else◌, List, [], ◌∷◌, ◌++◌, length, map, filter, slice_get, is_some, Option, Some, None, Result, Ok, Err, refl, sym, ap, ◌∙◌, subst, arith, append_assoc, append-nil}
 use Rattle.std.specs.Prelude.{IfOk}
 use Rattle.hcl_tree.specs.declared.tree.Kind.{Kind}
@@ -22,7 +22,7 @@ use Rattle.hcl_binding.proofs.Faulted.{err_at}
 use Rattle.hcl_faults.specs.declared.binding.ItemFault.{ItemFault}
 use Rattle.hcl_faults.specs.BindFaults.{with_fault, item_faults, is_missing, missing_names, first_of, must_define, is_twice, defined_name, own_fault, TellsMissing}
 
--- ---- an item's fault is none that says of a signal that it is missing
+-- ---- no fault of an item is a missing signal
 
 unlike : (f e : BindFault) → Some f ≡ Some e → (f.why ≡ why.Missing → ⊥) → e.why ≡ why.Missing → ⊥
 unlike f e same other m = let one : f ≡ e = grind (arith, same) in other (ap (λ (z : BindFault). z.why) one ∙ m)
@@ -74,7 +74,7 @@ item_other rows before (item.Quote text) e h = absurd (grind (arith, h))
 item_other rows before (item.Decl k name text) e h = declared_other (row_named rows name) k name e h
 item_other rows before (item.Def k name body) e h = defined_other rows (is_some (definition before name)) (row_named rows name) k name body e h
 
--- ---- where no item has a fault, a signal is missing
+-- ---- if no item has a fault, the fault is a missing signal
 
 module _ (rows : List Row) (apart : IsApart (row_names rows)) (items : List Item) (none : first_fault rows [] items ≡ None) where
   row_missing : (n k : ℕ) (row : Row) (e : BindFault) → slice_get rows n ≡ Some row → (d : Option Expr) → definition items row.name ≡ d → row_term rows row d ≡ Err e → e.why ≡ why.Missing
@@ -133,7 +133,7 @@ fault_alone rows items e (Ok own) sound b h i one =
     h.1 ∙ fault_of_one rows i e sound.apart (sym (ap (bound rows) one) ∙ b h.0)
 fault_alone rows items e (Err memory) sound b h i one = tt
 
--- ---- an item behind others
+-- ---- an item after others
 
 twice_as : (rows : List Row) (b : Bool) (r : Option Row) (k : Kind) (name : List ℕ) (body : Expr) → (must_define r && b) ≡ true → defined_as rows b r k name body ≡ Err (fault why.Twice name)
 twice_as rows b None k name body h = absurd (grind (arith, h))
@@ -173,7 +173,7 @@ with_more : (item : ℕ) (f : Option BindFault) (others : List ItemFault) → wi
 with_more item None others = refl
 with_more item (Some e) others = refl
 
--- what the loop keeps: the items so far with their faults, and those that are left
+-- the loop invariant: the items so far with their faults, and the items left
 pub record Gathered (rows : List Row) (items : List Item) (list : List ItemFault) (done left : List Item) : Type 0 where
   pub whole : done ++ left ≡ items
   pub same : list ++ item_faults rows done left ≡ item_faults rows [] items
@@ -232,7 +232,7 @@ unfolding bound
 first_is_told rows items e h =
     ap (λ f. bound_by f (all_ok (map (λ (row : Row). row_term rows row (definition items row.name)) (defined rows)))) (sym (first_item rows [] items) ∙ h)
 
--- the rows of a table from some on: the first that is missing is told
+-- the rows of a table from `n` on: the fault is the first that is missing
 module _ (rows : List Row) (apart : IsApart (row_names rows)) (items : List Item) (none : first_fault rows [] items ≡ None) where
   term_there : (n : ℕ) (row : Row) → slice_get rows n ≡ Some row → (body : Expr) (e : BindFault) → definition items row.name ≡ Some body → term_of (row_names rows) body ≡ Err e → ⊥
   term_there n row at_n body e q p =

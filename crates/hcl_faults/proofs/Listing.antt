@@ -9,7 +9,7 @@ use Rattle.hcl_faults.specs.declared.tokens.TokenAt.{TokenAt}
 use Rattle.hcl_faults.specs.Kinds.{kind_of}
 use Rattle.hcl_faults.specs.Places.{IsNext, behind_token, token_at, token_list}
 
--- the token in front of a rest, behind its gap
+-- the first token of a rest, after its gap
 pub record IsToken (rest here : List ℕ) (t : Token) (behind : List ℕ) : Type 0 where
   pub items_are : items rest ≡ (t, here) ∷ items behind
   pub after : behind_token here ≡ behind
@@ -38,7 +38,7 @@ next_of rest here t behind gap e =
 pub none_next : (rest here : List ℕ) → here ≡ skipped false rest → here ≡ [] → items rest ≡ []
 none_next rest here gap e = items_ended rest (sym gap ∙ e)
 
--- what the loop keeps: the tokens so far, and those of the rest
+-- the loop invariant: the tokens so far, and those of the rest
 pub record Listed (text : List ℕ) (list : List TokenAt) (rest : List ℕ) : Type 0 where
   pub within : length rest ≤ length text
   pub same : token_list text ≡ list ++ map (token_at text) (items rest)

@@ -1,4 +1,4 @@
--- A place is known by its line and column, and the tokens that begin before the place of a fault are those in front of it.
+-- A line and column determine a place, and the tokens that begin before the place of a fault are those in front of it.
 use Rattle.std.proofs.Common.{◌≡◌, ℕ, zero, suc, ◌+◌, ◌-◌, ◌<◌, ◌≤◌, ap, sym, ◌∙◌, refl, subst, Bool, true, false, not, cond, List, [], ◌∷◌, ◌++◌, length, map, take, drop, reverse, count_by, nat_lt, nat_le, arith, append-nil, append_assoc, length-append, ◌⊎◌, inl, inr}
 use Rattle.std.specs.List.{position_or_len, prefix_len}
 use Rattle.std.proofs.lemmas.Bool.Decides.{nat_tests}
@@ -18,7 +18,7 @@ use Rattle.hcl_faults.specs.Stops.{IsStopped, IndexIsOfFront}
 abbrev one_if : Bool → ℕ
 one_if b = cond b 1 0
 
--- ---- a line and a column have one place
+-- ---- a line and a column determine one place
 
 no_feeds_reverse : (xs : List ℕ) → count_by is_line_feed xs ≡ 0 → count_by is_line_feed (reverse xs) ≡ 0
 no_feeds_reverse [] h = refl

@@ -1,4 +1,4 @@
--- The reader behind the first tokens of a text.
+-- The state of the reader after the first tokens of a text.
 use Rattle.std.proofs.Common.{◌≡◌, ℕ, zero, suc, ◌+◌, ◌<◌, ◌≤◌, ap, sym, ◌∙◌, refl, subst, Bool, true, false, List, [], ◌∷◌, ◌++◌, length, map, take, arith, append-nil, append_assoc, length-append}
 use Rattle.std.specs.Prelude.{◌≢◌, ◌↔◌, Option, Some, None, Result, Ok, Err, IfOk, is_ok, nat_lt}
 use Rattle.std.proofs.lemmas.List.{take_all, take_at}
@@ -20,7 +20,7 @@ use Rattle.hcl_faults.proofs.Listing.{is_token}
 kind_list : List (Token × List ℕ) → List Token
 kind_list some = map (λ item. item.0) some
 
--- what the loop keeps: the reader has taken the tokens so far
+-- the loop invariant: the reader has taken the tokens so far
 pub record Reached (text : List ℕ) (count : ℕ) (state : ReaderState) (rest : List ℕ) : Type 0 where
   pub taken : List Token
   pub whole : tokens text ≡ taken ++ tokens rest
@@ -44,7 +44,7 @@ reached_step text rest here t behind count state next r gap e s =
       ran = one_more_read r.taken t state r.ran ∙ s;
     }
 
--- the first tokens of a text that has no more, or just so many
+-- the first `most` tokens of a text that has no more tokens
 pub reached_end : (text rest here : List ℕ) (count most : ℕ) (state : ReaderState) → Reached text count state rest → here ≡ skipped false rest → here ≡ [] → count ≤ most →
     run 0 start (take most (tokens text)) ≡ Ok state
 reached_end text rest here count most state r gap e h =
@@ -109,7 +109,7 @@ follows_not taken kind why f other =
     let e = not_ok why (run 0 start taken) f other in
     sym (ap is_ok (run_all taken (sample kind ∷ []) start ∙ ap (λ r. on r (λ next. run 0 next (sample kind ∷ []))) e.1))
 
--- what is answered where the reader refuses
+-- the answer if the reader refuses
 pub refused_step : {A E : Type 0} (r : Result Bool E) (why : HclWhy) (w : Result A HclWhy) → IfOk r (λ yes. (yes ≡ false) × (why ≢ whys.Memory)) → Refuses why w →
     IfOk r (λ yes. yes ≡ is_ok w)
 refused_step (Ok said) why w h f = let e = not_ok why w f h.1 in h.0 ∙ sym (ap is_ok e.1)
@@ -125,7 +125,7 @@ pub taken_run : {E : Type 0} (r : Result Bool E) (taken : List Token) (kind : To
 taken_run (Ok said) taken kind state ran h = h ∙ sym (follows_on taken kind state ran)
 taken_run (Err memory) taken kind state ran h = tt
 
--- the same in the words of the grammar
+-- the same by the grammar
 pub follows_in_files : (front : List Token) (kind : TokenKind) → (follows front kind ≡ true) ↔ Viable (front ++ sample kind ∷ [])
 unfolding follows
 follows_in_files front kind = (λ e. by (run 0 start (front ++ sample kind ∷ [])) refl e, λ v. ap is_ok (viable_reads (front ++ sample kind ∷ []) v).1)

@@ -1,4 +1,4 @@
--- The fault of a text that is no file.
+-- The fault of a text that is no HCL file.
 use Rattle.std.proofs.Common.{◌≡◌, ◌≢◌, ℕ, List, inl, inr}
 use Rattle.hcl_read.specs.declared.fault.HclFault.{HclFault}
 use Rattle.hcl_read.specs.declared.fault.HclWhy.TheVariants as whys

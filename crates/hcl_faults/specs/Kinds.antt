@@ -1,4 +1,4 @@
--- The kinds of tokens: what the grammar tells apart.
+-- The kinds of tokens that the grammar distinguishes.
 use Rattle.std.specs.Prelude.{ℕ, List, []}
 use Rattle.hcl_read.specs.declared.tokens.Token.{Token}
 use Rattle.hcl_read.specs.declared.tokens.Token.TheVariants as tokens

@@ -1,4 +1,4 @@
-//! Every fault of binding, by binding one item after another.
+//! Every fault of binding, found by binding each item alone: `bind` itself stops at the first.
 ghost use Rattle.std.specs.Prelude.{◌≡◌, ◌≢◌, ◌∷◌, ◌++◌, [], List, IfOk, OnOk, is_some, length, Some, Err};
 ghost use Rattle.hcl_tree.specs.declared.tree.Item.{Item};
 ghost use Rattle.hcl_binding.specs.declared.fault.BindFault.{BindFault};
@@ -15,14 +15,14 @@ use hcl_types::{Row, Table, is_defined};
 use std::alloc::Global;
 use y86_base::{Items, Memory};
 
-/// The fault of an item, which is counted from 0.
+/// The fault of an item; items are counted from 0.
 #[derive(Debug, PartialEq, Drop)]
 pub struct ItemFault {
     pub item: usize,
     pub fault: BindFault,
 }
 
-/// Whether some item defines a name.
+/// Whether an item of the list defines a name.
 pub fn is_defined_by(items: &[Item], name: &Text) -> bool
     ensures { result ≡ is_some (definition items.now name.now) }
 {
@@ -72,8 +72,8 @@ pub fn missing_names(alloc: Global, rows: &[Row], items: &[Item]) -> Result<Vec<
     Ok(names)
 }
 
-/// The fault of an item that is bound alone, from that of its file: signals are missing there, which is none of its
-/// own.
+/// The fault of an item alone, from the fault of a file with no other item: there a missing signal isn't the item's
+/// fault.
 fn own_fault(fault: BindFault) -> Result<Option<BindFault>, Memory>
     ensures { IfOk result (λ own. (fault.why ≢ OutOfMemory) × (own ≡ spec.own_fault fault.why fault)) }
 {
@@ -95,7 +95,7 @@ fn only_fault(alloc: Global, file: &File, table: &Table) -> Result<Option<BindFa
     }
 }
 
-/// The fault of an item where nothing is defined before it, and the item again.
+/// The fault of an item if nothing is defined before it, and the item, handed back.
 fn fault_alone(
     alloc: Global,
     table: &Table,
@@ -120,7 +120,7 @@ fn fault_alone(
     }
 }
 
-/// Whether an item defines a name that the file must define and has defined before.
+/// Whether an item defines again a name that the file must define.
 fn is_twice(rows: &[Row], before: &[Item], item: &Item) -> bool
     ensures { result ≡ spec.is_twice rows.now before.now item.now }
 {
@@ -139,7 +139,7 @@ fn is_twice(rows: &[Row], before: &[Item], item: &Item) -> bool
     }
 }
 
-/// The fault of an item whose name is defined before.
+/// The fault of an item whose name was defined before.
 fn twice(alloc: Global, item: &Item) -> Result<BindFault, Memory>
     ensures { IfOk result (λ e. e ≡ fault Again (spec.defined_name item.now)) }
 {
@@ -164,7 +164,7 @@ fn twice(alloc: Global, item: &Item) -> Result<BindFault, Memory>
     }
 }
 
-/// The fault of an item behind some others, and the item again.
+/// The fault of an item after some others, and the item, handed back.
 #[tactic(auto, using(crate::proofs::ItemLemmas::fault_twice, crate::proofs::ItemLemmas::fault_once))]
 fn fault_behind(
     alloc: Global,
@@ -186,7 +186,7 @@ fn fault_behind(
     }
 }
 
-/// Notes the fault of an item, if it has one.
+/// Appends the fault of an item, if it has one.
 fn put_fault(list: &mut Vec<ItemFault>, item: usize, fault: Option<BindFault>) -> Result<(), Memory>
     ensures { OnOk result (list.new.items ≡ list.old.items ++ spec.with_fault item fault []) }
 {
@@ -196,7 +196,7 @@ fn put_fault(list: &mut Vec<ItemFault>, item: usize, fault: Option<BindFault>) -
     }
 }
 
-/// Adds an item behind others, and its fault.
+/// Adds an item after others, and its fault.
 fn add_item(
     alloc: Global,
     table: &Table,
@@ -218,8 +218,8 @@ fn add_item(
     }
 }
 
-/// The faults of a file's items in text order, one an item at most, and the items again. The first of them is the
-/// fault that `bind` tells (`law_of_first_faults`).
+/// The faults of a file's items in text order, at most one for each item, and the items, handed back. The first fault
+/// is the one that `bind` reports (`law_of_first_faults`).
 pub fn item_faults(
     alloc: Global,
     file: File,
@@ -243,8 +243,8 @@ pub fn item_faults(
     }
 }
 
-/// The fault that `bind` tells is the first of the items' faults. Where there is none, it is that of the first signal
-/// that is missing, and a file without either is a design.
+/// `bind` reports the first of the items' faults. If there is none, it reports the first missing signal, and a file
+/// without either is a design.
 #[tactic(auto, using(crate::proofs::ItemLemmas::first_is_told, crate::proofs::ItemLemmas::missing_is_told))]
 pub fn law_of_first_faults()
     ensures first { (rows : List Row) (items : List Item) (e : BindFault) → spec.first_of (spec.item_faults rows [] items) ≡ Some e → bound rows items ≡ Err e }

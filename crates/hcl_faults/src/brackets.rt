@@ -1,4 +1,4 @@
-//! The brackets that are open behind some tokens.
+//! The brackets that are open after some tokens: which ones the reader still expects to be closed.
 ghost use Rattle.std.specs.Prelude.{◌≡◌, IfOk, OnOk, reverse};
 ghost use Rattle.hcl_faults.specs.Brackets as spec;
 
@@ -27,7 +27,7 @@ fn closes(kind: TokenKind) -> bool
     )
 }
 
-/// Notes a token that opens or closes a bracket. The innermost bracket is the last.
+/// Records a token that opens or closes a bracket. The innermost bracket is the last.
 #[tactic(auto, unfolding(crate::specs::Brackets::behind_one), using(y86_base::proofs::Lists::reverse_push))]
 fn note(open_ones: &mut Vec<TokenAt>, token: TokenAt) -> Result<(), Memory>
     ensures { OnOk result (reverse open_ones.new.items ≡ spec.behind_one (reverse open_ones.old.items) token) }
@@ -42,7 +42,7 @@ fn note(open_ones: &mut Vec<TokenAt>, token: TokenAt) -> Result<(), Memory>
     Ok(())
 }
 
-/// The brackets that are open behind some tokens, the innermost last.
+/// The brackets that are open after some tokens, the innermost last.
 #[tactic(auto, unfolding(crate::specs::Brackets::open_behind))]
 pub fn open_brackets(alloc: Global, tokens: &[TokenAt]) -> Result<Vec<TokenAt>, Memory>
     ensures { IfOk result (λ open_ones. reverse open_ones.items ≡ spec.open_brackets tokens.now) }

@@ -1,4 +1,4 @@
-//! Where definitions and their cases begin.
+//! Finds the places of definitions and of their cases in an HCL text.
 use crate::kinds::TokenKind;
 use crate::places::{TextPlace, place_at};
 use crate::tokens::{TokenAt, token_list};
@@ -22,7 +22,7 @@ pub fn token_text<'a>(text: &'a [u8], token: &TokenAt) -> &'a [u8] {
     }
 }
 
-/// The position among some tokens of the one with which an item, counted from 0, begins.
+/// The position, in a list of tokens, of the first token of an item. Items are counted from 0.
 pub fn item_start(tokens: &[TokenAt], item: usize) -> Option<usize> {
     let mut left = item;
     for (index, token) in tokens.iter().enumerate() {
@@ -36,7 +36,7 @@ pub fn item_start(tokens: &[TokenAt], item: usize) -> Option<usize> {
     None
 }
 
-/// The position among the tokens of a text of the name that is defined, in the first definition of it.
+/// The position of the defined name in the first definition of a name, in the list of a text's tokens.
 pub fn definition_name(text: &[u8], tokens: &[TokenAt], name: &[u8]) -> Option<usize> {
     let mut is_defined = false;
     for (index, token) in tokens.iter().enumerate() {
@@ -56,7 +56,7 @@ fn closes_list(tokens: &[TokenAt], index: usize) -> bool {
     }
 }
 
-/// How many lists of cases are open behind a token.
+/// How many lists of cases are open after a token.
 fn depth_behind(depth: u64, kind: TokenKind) -> u64 {
     match kind {
         TokenKind::OpenBracket => depth.saturating_add(1),
@@ -65,7 +65,7 @@ fn depth_behind(depth: u64, kind: TokenKind) -> u64 {
     }
 }
 
-/// The position among some tokens of the one with which a case of the outermost list of cases begins, in the
+/// The position, in a list of tokens, of the first token of a case: one in the outermost list of cases of the
 /// definition whose name is at `start`.
 pub fn case_start(tokens: &[TokenAt], start: usize, case: usize) -> Option<usize> {
     let mut depth = 0;
@@ -88,7 +88,7 @@ pub fn case_start(tokens: &[TokenAt], start: usize, case: usize) -> Option<usize
     None
 }
 
-/// The place of the token at a position.
+/// The place of the token at a position in the list.
 fn place_of(text: &[u8], tokens: &[TokenAt], index: usize) -> Option<TextPlace> {
     match tokens.get(index) {
         None => None,
@@ -103,7 +103,7 @@ fn place_of(text: &[u8], tokens: &[TokenAt], index: usize) -> Option<TextPlace> 
     }
 }
 
-/// Where the first definition of a name has this name.
+/// The place of the name in its first definition.
 pub fn definition_place(
     alloc: Global,
     text: &[u8],
@@ -119,7 +119,8 @@ pub fn definition_place(
     }
 }
 
-/// Where a case, counted from 0, of the outermost list of cases begins in the first definition of a name.
+/// The place where a case begins, one of the outermost list of cases in the first definition of a name. Cases are
+/// counted from 0.
 pub fn case_place(
     alloc: Global,
     text: &[u8],

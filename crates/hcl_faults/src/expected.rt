@@ -1,4 +1,4 @@
-//! Which kinds of token may stand behind some tokens.
+//! Which kinds of token may follow some tokens, to say what was expected where the reader stops.
 ghost use Rattle.std.specs.Prelude.{◌≡◌, ◌≢◌, IfOk, false, true, is_ok, take};
 ghost use Rattle.hcl_read.specs.Machine as machine;
 ghost use Rattle.hcl_read.specs.Steps.{Steps};
@@ -13,7 +13,7 @@ use hcl_read::{HclWhy, ReaderState, after_gap, start, step, token};
 use std::alloc::Global;
 use y86_base::Memory;
 
-/// The kinds of token that stand in files.
+/// The kinds of token that occur in files.
 pub static FOLLOW_KINDS: [TokenKind; 21] = [
     TokenKind::Quote,
     TokenKind::Declaration,
@@ -38,7 +38,7 @@ pub static FOLLOW_KINDS: [TokenKind; 21] = [
     TokenKind::Colon,
 ];
 
-/// The kinds of token that stand in files.
+/// The kinds of token that occur in files.
 #[tactic(auto, unfolding(crate::specs::Expected::file_kinds))]
 fn file_kinds() -> &'static [TokenKind]
     ensures { result.now ≡ spec.file_kinds }
@@ -46,7 +46,7 @@ fn file_kinds() -> &'static [TokenKind]
     &FOLLOW_KINDS
 }
 
-/// The state of the reader behind the first tokens of a text.
+/// The state of the reader after the first tokens of a text.
 fn state_behind(alloc: Global, text: &[u8], count: usize) -> Result<ReaderState, HclWhy>
     ensures { Steps result (machine.run 0 machine.start (take count (tokens text.now))) }
 {
@@ -68,7 +68,7 @@ fn state_behind(alloc: Global, text: &[u8], count: usize) -> Result<ReaderState,
     Ok(state)
 }
 
-/// The answer where the reader refuses a token: no, unless memory was wanted.
+/// The answer if the reader refuses a token: no, unless memory was out.
 fn refused(why: HclWhy) -> Result<bool, Memory>
     ensures { IfOk result (λ yes. (yes ≡ false) × (why ≢ OutOfMemory)) }
 {
@@ -78,14 +78,14 @@ fn refused(why: HclWhy) -> Result<bool, Memory>
     }
 }
 
-/// Lets go of a state that is not needed any more.
+/// Drops a state that is not needed any more.
 fn let_go(_state: ReaderState) -> bool
     ensures { result ≡ true }
 {
     true
 }
 
-/// Whether the reader takes a token of a kind.
+/// Whether the reader accepts a token of a kind.
 #[tactic(auto, using(crate::proofs::Runs::refused_step))]
 fn takes(alloc: Global, state: ReaderState, kind: TokenKind) -> Result<bool, Memory>
     ensures { IfOk result (λ yes. yes ≡ is_ok (machine.step true state (kinds.sample kind))) }
@@ -96,7 +96,7 @@ fn takes(alloc: Global, state: ReaderState, kind: TokenKind) -> Result<bool, Mem
     }
 }
 
-/// Whether a token of a kind may stand behind the first tokens of a text.
+/// Whether a token of a kind may follow the first tokens of a text.
 fn can_follow(alloc: Global, text: &[u8], count: usize, kind: TokenKind) -> Result<bool, Memory>
     ensures { IfOk result (λ yes. yes ≡ spec.follows (take count (tokens text.now)) kind) }
 {
@@ -106,8 +106,8 @@ fn can_follow(alloc: Global, text: &[u8], count: usize, kind: TokenKind) -> Resu
     }
 }
 
-/// The kinds of token that may stand behind the first tokens of a text: some file begins with these tokens and one
-/// of that kind (`law_of_expected`).
+/// The kinds of token that may follow the first tokens of a text: some file begins with these tokens and one of that
+/// kind (`law_of_expected`).
 pub fn expected_kinds(alloc: Global, text: &[u8], count: usize) -> Result<Vec<TokenKind>, Memory>
     ensures { IfOk result (λ list. list.items ≡ spec.expected text.now count) }
 {
@@ -128,8 +128,8 @@ pub fn expected_kinds(alloc: Global, text: &[u8], count: usize) -> Result<Vec<To
     Ok(list)
 }
 
-/// A kind of token may stand somewhere exactly where some file of the grammar begins with the tokens in front and one
-/// of that kind, and keeps the limits on depth and numbers.
+/// A kind of token may follow exactly if some file of the grammar begins with the tokens in front and one of that kind,
+/// and keeps the limits on depth and numbers.
 #[tactic(auto, using(crate::proofs::Runs::follows_in_files))]
 pub fn law_of_expected()
     ensures { spec.FollowsInFiles }

@@ -1,4 +1,4 @@
-//! The kinds of tokens.
+//! The kinds of tokens that the grammar distinguishes.
 ghost use Rattle.std.specs.Prelude.{◌≡◌};
 ghost use Rattle.hcl_faults.specs.Kinds as spec;
 
@@ -6,7 +6,7 @@ use hcl_read::Token;
 use hcl_tree::{CmpOp, Kind, Text};
 use std::alloc::Global;
 
-/// A kind of token: what the grammar tells apart.
+/// A kind of token that the grammar distinguishes.
 #[derive(Clone, Copy, Debug, PartialEq, Eq)]
 pub enum TokenKind {
     /// `quote`
@@ -21,7 +21,7 @@ pub enum TokenKind {
     Name,
     /// A number in range.
     Number,
-    /// A number that is not in range.
+    /// A number that is out of range.
     WideNumber,
     /// A text in quotes.
     QuotedText,
@@ -40,7 +40,7 @@ pub enum TokenKind {
     CloseBracket,
     Comma,
     Colon,
-    /// A byte that may stand only in comments and quoted texts.
+    /// A byte that may occur only in comments and quoted texts.
     BadByte,
     /// A byte that begins no token.
     Stray,
@@ -78,7 +78,7 @@ pub fn kind_of(token: &Token) -> TokenKind
     }
 }
 
-/// A token of a kind. Where one of a kind may stand, each of that kind may.
+/// A token of a kind. Where it may occur, each token of its kind may.
 pub fn sample(alloc: Global, kind: TokenKind) -> Token
     ensures { result ≡ spec.sample kind }
 {

@@ -1,5 +1,5 @@
-//! The faults of an HCL text as facts: where the reader stopped, what could stand there and what is open; every fault
-//! of binding; the places of definitions and of their cases. Sentences are made of them elsewhere.
+//! The faults of an HCL text as data: where the reader stopped, what it expected there and which brackets are open;
+//! every fault of binding; the places of definitions and of their cases. `fault_report` makes sentences of them.
 #![tactic(auto)]
 
 mod binding;

@@ -1,4 +1,4 @@
-//! Lists that grow.
+//! Appends to a list, and reports `Memory` if memory is out.
 ghost use Rattle.std.specs.Prelude.{◌≡◌, ◌++◌, ◌∷◌, [], OnOk};
 
 use y86_base::Memory;

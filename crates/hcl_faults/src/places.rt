@@ -4,7 +4,7 @@ ghost use Rattle.hcl_faults.specs.Places as spec;
 
 use y86_base::Cursor;
 
-/// A place in a text: how many bytes stand before it, and its line and column from 1. A column counts bytes.
+/// A place in a text: the number of bytes before it, and its line and column from 1. A column counts bytes.
 #[derive(Clone, Copy, Debug, PartialEq, Eq)]
 pub struct TextPlace {
     pub at: usize,
@@ -12,7 +12,7 @@ pub struct TextPlace {
     pub column: u64,
 }
 
-/// The place behind some bytes of a text.
+/// The place after the first bytes of a text.
 pub fn place_at(text: &[u8], at: usize) -> TextPlace
     requires { at ≤ length text.now }
     ensures { result ≡ spec.place_at text.now at }

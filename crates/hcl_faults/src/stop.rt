@@ -15,8 +15,8 @@ use hcl_read::{HclFault, HclWhy, read};
 use std::alloc::Global;
 use y86_base::{Cursor, Items, Memory};
 
-/// Where the reader stops in a text: its fault; how many bytes and how many tokens are before the place; all tokens of
-/// the text; the kinds of token that could be there; and the brackets that are open there, the innermost last.
+/// Where the reader stops in a text: its fault; the number of bytes and of tokens before the place; all tokens of the
+/// text; the kinds of token that could be there; and the brackets that are open there, the innermost last.
 #[derive(Debug, Drop)]
 pub struct Stopped {
     pub fault: HclFault,
@@ -52,7 +52,7 @@ fn count_before(tokens: &[TokenAt], at: usize) -> usize
     tokens.iter().take_while(|token| token.from < at).count()
 }
 
-/// What there is at a place at which the reader stops.
+/// Describes a place at which the reader stops.
 fn described(alloc: Global, text: &[u8], fault: HclFault, at: usize) -> Result<Stopped, Memory>
     ensures { IfOk result (λ s. (s.fault ≡ fault) × (s.at ≡ at) × spec.Describes text.now s) }
 {
@@ -79,7 +79,7 @@ fn described(alloc: Global, text: &[u8], fault: HclFault, at: usize) -> Result<S
     })
 }
 
-/// Where the reader stops in a text; None for a text that is a file.
+/// Where the reader stops in a text; `None` if the text is an HCL file.
 #[tactic(auto, using(crate::proofs::StopLemmas::is_fault))]
 pub fn stop_in(alloc: Global, text: &[u8]) -> Result<Option<Stopped>, Memory>
     ensures { IfOk result (λ r. MatchOption r ((file : File) × ReadsAs text.now file) (spec.IsStopped text.now)) }
@@ -99,8 +99,8 @@ pub fn stop_in(alloc: Global, text: &[u8]) -> Result<Option<Stopped>, Memory>
     }
 }
 
-/// The tokens that begin before the place at which the reader stops are just those with which the fault says that a file
-/// can begin: no other token is in front, and the one at the place is the one that is refused.
+/// The tokens that begin before the place at which the reader stops are just those with which, by the fault, a file can
+/// begin: no other token is in front, and the token at the place is the refused one.
 pub fn law_of_fronts()
     ensures { spec.IndexIsOfFront }
 {}

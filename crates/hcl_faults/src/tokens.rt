@@ -9,8 +9,8 @@ use hcl_read::{after_gap, token};
 use std::alloc::Global;
 use y86_base::Memory;
 
-/// A token of a text: its kind, and how many bytes stand before it and up to its end. Where no token begins
-/// (`BadByte`, `Stray`) the end is that of the text.
+/// A token of a text: its kind, and the number of bytes before it and up to its end. If no token begins there
+/// (`BadByte`, `Stray`), the end is that of the text.
 #[derive(Clone, Copy, Debug, PartialEq, Eq)]
 pub struct TokenAt {
     pub kind: TokenKind,
@@ -18,7 +18,7 @@ pub struct TokenAt {
     pub to: usize,
 }
 
-/// The token in front, as its kind, the bytes from its first on and those behind it; None where none is left.
+/// The kind of the first token, the bytes from the token on, and the bytes after it; `None` if no token is left.
 fn next_token(alloc: Global, rest: &[u8]) -> Result<Option<(TokenKind, &[u8], &[u8])>, Memory>
     ensures { IfOk result (λ r. MatchOption r (items rest.now ≡ []) (λ x. spec.IsNext rest.now x.0 x.1.now x.2.now)) }
 {
@@ -30,7 +30,7 @@ fn next_token(alloc: Global, rest: &[u8]) -> Result<Option<(TokenKind, &[u8], &[
     }
 }
 
-/// The tokens of a text in order. Behind a byte that begins no token none is looked for.
+/// The tokens of a text in order. It stops after a byte that begins no token.
 pub fn token_list(alloc: Global, text: &[u8]) -> Result<Vec<TokenAt>, Memory>
     ensures { IfOk result (λ list. list.items ≡ spec.token_list text.now) }
 {

@@ -1,4 +1,4 @@
--- A line that lists a text, in the words of the form.
+-- Which lines list a text: well-formed lines with an address, bytes, and a text after the `|`.
 use Rattle.std.proofs.Common.{◌≡◌, ℕ, ◌<◌, ◌^◌, Bool, true, false, List, [], ◌∷◌, ◌++◌, length, Option, None, Some, refl, sym, ap, ◌∙◌, subst, if◌then◌else◌, cond, take_while, arith}
 use Rattle.std.specs.Prelude.{nat_eq, nat_lt, option_and_then, unwrap_or}
 use Rattle.std.specs.List.{list_all}

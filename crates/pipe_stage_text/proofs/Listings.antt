@@ -1,4 +1,4 @@
--- The table of what an object text lists, line by line.
+-- The table of the texts that an object text lists, built line by line.
 use Rattle.std.proofs.Common.{◌≡◌, ℕ, Bool, true, false, cond, List, [], ◌∷◌, Option, None, Some, refl, sym, ap, ◌∙◌}
 use Rattle.std.specs.Prelude.{Vec, nat_eq, option_and_then}
 use Rattle.std.specs.Map.{lookup}
@@ -55,7 +55,7 @@ module _ {A : Type 0} where
   items_if true text before = refl
   items_if false text before = refl
 
-  -- an entry that was put
+  -- after an entry was put
   pub put_one : (before after : List (ℕ × Vec ℕ A)) (own : ℕ) (copy : Vec ℕ A) (text : List ℕ) →
       ((address : ℕ) → lookup (nat_eq address) after ≡ cond (nat_eq own address) (Some copy) (lookup (nat_eq address) before)) → copy.items ≡ text →
       (address : ℕ) → text_in after address ≡ cond (nat_eq own address) (Some text) (text_in before address)
@@ -87,7 +87,7 @@ listed_none : (address : ℕ) → listed_in address [] ≡ None
 unfolding listed_in
 listed_none address = refl
 
--- what the rest of an object text lists, and else what was listed before it, is all that is listed
+-- what the rest of an object text lists, or else what was listed before it, is all that is listed
 pub record Over (rest : List ℕ) (before all : ℕ → Option (List ℕ)) : Type 0 where
   pub told : (address : ℕ) → option_or (listed_in address (lines rest)) (before address) ≡ all address
 

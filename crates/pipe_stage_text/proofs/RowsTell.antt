@@ -59,7 +59,7 @@ kept_row Stay Load fetch most h = omega arith
 kept_row Bubble d fetch most h = omega arith
 kept_row Load d fetch most h = omega arith
 
--- the rows of the bubbles, from that of W to that of D, where so many rows were before and each may be one more
+-- rows of bubbles, from W's to D's: each register may add a row to those before
 up : (row before first now : ℕ) → row ≤ before → before ≤ first → first ≤ now → row ≤ now
 up row before first now h h' h'' = omega arith
 
@@ -108,7 +108,7 @@ some_rows s f = no_fewer (waits s.watch (f row.f_pc)) s.watch.rows
 numbered_after : (s : Observer) (f : ℕ → ℕ) → IsNumbered s.watch → IsNumbered (next_watch s f)
 numbered_after s f h = numbered_next s.watch (fetch_of s f) (requested_updates f) h (some_rows s f) (fetch_numbered s f h)
 
--- ---- what stands in the registers
+-- ---- what the registers hold
 
 not_aok : (a c d e : Bool) → is_aok (if a then Bub else (if false then Aok else (if c then Hlt else (if d then Adr else (if e then Ins else Bad))))) ≡ false
 not_aok true c d e = refl
@@ -129,7 +129,7 @@ going_by false both n e h = absurd (grind (arith, stops n e, h))
 going : (f : ℕ → ℕ) → is_aok (end_by (ending f) (stat_of (f row.Stat))) ≡ true → ending f ≡ Going
 going f h = going_by (f row.Stat == 1) (any_both f) (f row.Stat) refl h
 
--- a register and its row; the ifun rides with the instruction too
+-- a register and its row; the ifun moves with the instruction too
 record InD (h : StageContent) (s : StageD) : Type 0 where
   live : h.live ≡ s.live
   addr : h.addr ≡ s.trail.addr
@@ -196,7 +196,7 @@ module _ (s : Observer) (f : ℕ → ℕ) (h : InAll s.watch s.state) where
       let ride = store_rides s.state.m.live s.state.m.trail (store_of s.state f) in
       record { live = h.m.live; addr = h.m.addr ∙ sym ride.0; icode = h.m.icode; ifun = h.m.ifun ∙ h.m.rides ∙ sym ride.1 }
 
-  -- a cycle with which the machine goes on
+  -- a cycle after which the machine goes on
   abbrev by : CycleEnd → PipeState
   by e =
       let k = updates_by e (requested_updates f) in
@@ -229,7 +229,7 @@ holds_state watch p h =
 
 -- ---- letters
 
--- does a register hold a row next, where it holds it, or not, and loads from where that stands, or not
+-- whether a register holds a row next; `held`: it holds the row now; `loaded`: the register it loads from holds the row
 abbrev held_next : RegisterUpdate → Bool → Bool → Bool
 held_next Stay held loaded = held
 held_next Bubble held loaded = false
@@ -298,7 +298,7 @@ lost_f Bubble Bubble = refl
 lost_f Load Bubble = refl
 lost_f f Load = refl
 
--- the letter of a row, by the stages in which it stands and by what is lost
+-- the letter of a row, by the stages that hold it and by what is cancelled
 abbrev picked : Bool → Bool → Bool → Bool → Bool → Bool → Bool → Bool → Bool → ℕ
 picked f d e m w f_lost d_lost e_lost m_lost =
     if w then 87

@@ -1,4 +1,4 @@
--- The machine that is watched is the machine of the run, by induction on the number of cycles.
+-- The observed machine is the machine of the run, by induction on the number of cycles.
 use Rattle.std.proofs.Common.{◌≡◌, ℕ, zero, suc, ◌+◌, Bool, true, false, List, ◌++◌, length, Option, Some, None, refl, sym, ◌∙◌, ap, subst, length-append, arith, add-one}
 use Rattle.std.specs.Option.{option_to_list}
 use Rattle.std.proofs.Math.Path.{fun_ext}
@@ -44,7 +44,7 @@ module _ (v : Variant) (terms : List Term) (window : CycleRange) (image : List �
         record { state = state_after so_far e; end = end_after e; retired = retired_after so_far e },
       )
 
--- the machine after a cycle, by its parts
+-- the observed machine after a cycle, by its parts
 pub seen_after : (tells : (ℕ → ℕ) → SourceNames) (window : CycleRange) (number : ℕ) (s t : Observer) (f : ℕ → ℕ) → t.state ≡ next s.state f →
     t.watch ≡ moved_watch s.watch (fetched s.watch s.state f) (requested_updates f) → t.retired ≡ s.retired + length (option_to_list (retires s.state f)) →
     t.end ≡ end_by (ending f) (stat_of (f row.Stat)) → t.text ≡ s.text ++ lines_shown tells window number s.watch (fetched s.watch s.state f) s.state f →
@@ -59,7 +59,7 @@ seen_after tells window number s t f state watch retired end text cycles = λ i.
   cycles = cycles i;
 }
 
--- one more cycle of a machine that is watched
+-- another cycle of an observed machine
 pub watches_more : (v : Variant) (terms : List Term) (window : CycleRange) (image : List ℕ) (k : ℕ) (u s : Observer) (f : ℕ → ℕ) →
     Observes v terms window image k u → is_aok u.end ≡ true → Solves v terms u.state f → s ≡ after (sources pipe_rows terms) window (k + 1) u f →
     Observes v terms window image (k + 1) s
@@ -73,7 +73,7 @@ watches_the_run v terms window image (suc k) s h =
     let before = watches_the_run v terms window image k h.0 h.2 in
     one_more v terms window image k h.0 s h.1 before.0 before.1 before.2 h.3 h.4 h.5
 
--- what is shown depends on the texts at the addresses alone, and on none where no diagram is asked for
+-- what is shown depends only on the texts at the addresses, and on none if no diagram is asked for
 pub same_whole : (listing other : ℕ → Option (List ℕ)) (asked : Bool) → (asked ≡ true → (address : ℕ) → listing address ≡ other address) → (k : ℕ) (s : Observer) →
     whole_text listing asked k s ≡ whole_text other asked k s
 unfolding whole_text

@@ -1,4 +1,4 @@
--- The texts of instructions differ from the words for what is none: by their first two letters.
+-- The names of instructions differ from the texts `bubble`, `failed fetch` and `invalid`, by their first two letters.
 use Rattle.std.proofs.Common.{◌≡◌, ◌↔◌, ℕ, zero, suc, Bool, true, false, not, ◌&&◌, ◌||◌, ◌==◌, cond, if◌then◌else◌, List, [], ◌∷◌, ◌++◌, nat_le, nat_lt, refl, sym, ap, ◌∙◌, arith}
 use Rattle.std.specs.Prelude.{codes, slice_index_or}
 use Rattle.std.proofs.lemmas.Bool.{and_parts}
@@ -9,7 +9,7 @@ use Rattle.pipe_stage_text.specs.Instruction.{instruction, is_valid, jumps, mnem
 use Rattle.pipe_stage_text.specs.Texts.{IsBubble, IsFailed, IsInvalid, TextsDiffer}
 use Rattle.pipe_stage_text.specs.declared.stage_content.StageContent.{StageContent}
 
--- a text begins with two letters that aren't those of `bubble`, `failed fetch` or `invalid`
+-- two first letters other than those of `bubble`, `failed fetch` or `invalid`
 abbrev others : ℕ → ℕ → Bool
 others a b = not ((a == 98 && b == 117) || (a == 102 && b == 97) || (a == 105 && b == 110))
 
@@ -84,7 +84,7 @@ abbrev text_of : Bool → Bool → Bool → List ℕ → List ℕ
 text_of live failed valid named =
     if not live then codes "bubble" else (if failed then codes "failed fetch" else (if not valid then codes "invalid" else named))
 
--- a text that is a name is none of the three words
+-- a text that is a name isn't one of the three texts
 no_word : (text word : List ℕ) → is_name text ≡ true → is_name word ≡ false → text ≡ word → ⊥
 no_word text word h h' e = cc
 

@@ -1,4 +1,4 @@
--- What is fetched is told as the run by instructions ends there.
+-- The text of a fetch agrees with the status with which the run by instructions ends there.
 use Rattle.std.proofs.Common.{◌≡◌, ◌↔◌, ◌⊎◌, inl, inr, ℕ, ◌<◌, ◌≤◌, Bool, true, false, not, ◌==◌, cond, if◌then◌else◌, List, nat_le, nat_lt, refl, sym, ap, ◌∙◌, subst, arith}
 use Rattle.std.specs.Prelude.{codes}
 use Rattle.std.proofs.lemmas.Bool.Decides.{nat_tests}
@@ -35,7 +35,7 @@ use Rattle.pipe_stage_text.specs.declared.stage_content.StageContent.{StageConte
 use Rattle.pipe_stage_text.specs.declared.stage_contents.StageContents.{StageContents}
 use Rattle.pipe_stage_text.proofs.Texts.{texts_differ}
 
--- ---- what is read, without an error, is the icode of an invalid instruction or an instruction
+-- ---- what is read without an error is an instruction, or the icode of an invalid one
 
 below : (icode n : ℕ) → icode < n → n ≤ 13 → nat_lt icode 13 ≡ true
 below icode n h h' = grind (arith, nat_tests)

@@ -1,4 +1,4 @@
--- A text without the blanks in front and at its end.
+-- Trimming a text: without the blanks in front and at its end.
 use Rattle.std.proofs.Common.{◌≡◌, ℕ, ◌-◌, ◌≤◌, ◌<◌, Bool, true, false, List, [], ◌∷◌, ◌++◌, length, take, drop, refl, sym, ap, ◌∙◌, subst, take_while, arith}
 use Rattle.std.specs.Prelude.{reverse}
 use Rattle.std.specs.List.{list_all, prefix_len}
@@ -10,7 +10,7 @@ use Rattle.y86_base.specs.Text.{begins, behind, is_blank}
 use Rattle.y86_base.proofs.Runs.{behind-run, list_all-append, run_and_rest, run_passes, run_stops}
 use Rattle.pipe_stage_text.specs.Listed.{IsBetween, without_end}
 
--- the last elements are the first ones, read backward
+-- the last elements are the first ones of the reversed text
 dropped : (text : List ℕ) (n : ℕ) → n ≤ length text → drop n (reverse text) ≡ reverse (take (length text - n) text)
 dropped text n within =
     let front : List ℕ = take (length text - n) text in
@@ -25,7 +25,7 @@ cut_end text n is =
     let within : n ≤ length text = subst (λ m. n ≤ m) (length-reverse text) (subst (λ m. m ≤ length (reverse text)) (sym is) (prefix_len-le-length is_blank (reverse text))) in
     sym (reverse-reverse (take (length text - n) text)) ∙ ap reverse (sym (dropped text n within)) ∙ ap (λ m. reverse (drop m (reverse text))) is
 
--- ---- it stands between blanks
+-- ---- the trimmed text is between blanks
 
 one_passes : (p : ℕ → Bool) (x : ℕ) → p x ≡ true → list_all p (x ∷ []) ≡ true
 one_passes p x e = rw e refl
@@ -62,7 +62,7 @@ is_between whole =
       ends = subst (λ xs. begins is_blank xs ≡ false) (sym (reverse-reverse inner)) (run_stops is_blank (reverse text));
     }
 
--- and no other text does, unless it is empty
+-- and no other text is, unless it is empty
 pub between_is : (whole text : List ℕ) → 0 < length text → IsBetween whole text → without_end (behind is_blank whole) ≡ text
 between_is whole text some h =
     let dark : begins is_blank (text ++ h.back) ≡ false = begins_longer is_blank text h.back some h.starts in

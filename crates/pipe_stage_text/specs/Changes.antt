@@ -1,4 +1,4 @@
--- What the lines of a cycle say of registers and memory is all that the cycle changes there.
+-- The lines of a cycle report all that the cycle changes in registers and memory.
 use Rattle.std.specs.Prelude.{◌≡◌, ◌<◌, ℕ, true, List, [], ◌∷◌, Some, is_some}
 use Rattle.std.specs.List.{AllByRecursion}
 use Rattle.y86_base.specs.Image.{word_at}
@@ -12,7 +12,7 @@ use Rattle.dp_signals.specs.PipeEquations.{Solves}
 use Rattle.dp_signals.specs.declared.pipe_state.PipeState.{PipeState}
 use Rattle.pipe_stage_text.specs.Cycle.{told_store, told_writes}
 
--- the registers once words are written to some of them, one after another
+-- the registers after writes of words, one after another
 abbrev pub after_writes : List ℕ → List (ℕ × ℕ) → List ℕ
 after_writes registers [] = registers
 after_writes registers (write ∷ rest) = after_writes (with_register registers write.0 write.1) rest

@@ -1,4 +1,4 @@
--- The lines of one cycle: of a state of the machine, with f for the value of each signal, and what the picks of the file tell of it.
+-- The lines of one cycle: for a state of the machine, the value f of each signal, and the sources of picked values.
 use Rattle.std.specs.Prelude.{ℕ, Bool, ◌==◌, nat_lt, List, [], ◌∷◌, ◌++◌, map, codes, Option, Some, None, if◌then◌else◌}
 use Rattle.std.specs.List.{concat}
 use Rattle.y86_base.specs.Stat.{stat_name}
@@ -15,7 +15,7 @@ use Rattle.pipe_stage_text.specs.Sources.{SourceNames}
 use Rattle.pipe_stage_text.specs.declared.stage_content.StageContent.{StageContent}
 use Rattle.pipe_stage_text.specs.declared.stage_contents.StageContents.{StageContents}
 
--- what the file asks of a pipeline register: of a stall and of a bubble
+-- the update of a pipeline register that the file requests by stall and bubble
 abbrev pub next_word : Bool → Bool → List ℕ
 next_word stall bubble =
     if stall then (if bubble then codes "both" else codes "stall") else (if bubble then codes "bubble" else codes "load")
@@ -23,7 +23,8 @@ next_word stall bubble =
 abbrev pub place : StageContent → List ℕ
 place h = if h.live then address h.addr else codes "-"
 
--- the head of the line of a stage, by its letter, what stands there, its stall and its bubble, its status; and the end of the line
+-- the head of the line of a stage: its letter, what it holds, its stall and bubble, and its status; and the end of the
+-- line
 unfoldable pub head : List ℕ → StageContent → Bool → Bool → ℕ → List ℕ
 head letter h stall bubble stat =
     letter
@@ -122,7 +123,7 @@ write_line h p f =
     head (codes "W") h (set (f row.W_stall)) (set (f row.W_bubble)) p.w.stat
     ++ (write_fields p ++ (status_pair (codes " Stat ") (f row.Stat) ++ tail h))
 
--- the stages, where fetch is fetched and watch stands in the others
+-- the stages; `fetch` is what is fetched, and `watch` what the others hold
 unfoldable pub stage_lines : StageContents → StageContent → PipeState → (ℕ → ℕ) → SourceNames → List ℕ
 stage_lines watch fetch p f from =
     fetch_line fetch p f from ++ (decode_line watch.d p f from ++ (execute_line watch.e p f ++ (memory_line watch.m p f ++ write_line watch.w p f)))
@@ -137,7 +138,8 @@ flags_line flags =
     number_pair (codes "flags ZF ") (bit flags.zf)
     ++ (number_pair (codes " SF ") (bit flags.sf) ++ (number_pair (codes " OF ") (bit flags.of) ++ codes "\n"))
 
--- the registers that a cycle writes, each with its word: the destination of valE and then that of valM; in PIPE where W_stat is AOK
+-- the registers that a cycle writes, each with its word: the destination of valE and then that of valM; PIPE writes
+-- only if W_stat is AOK
 abbrev pub written : ℕ → ℕ → List (ℕ × ℕ)
 written register word = if nat_lt register 15 then (register, word) ∷ [] else []
 

@@ -1,5 +1,5 @@
--- The diagram of some cycles of a run: a line for each row, with a column for each cycle (CS:APP 3e, figures 4.43 and 4.54), and with what the object
--- text lists at each address.
+-- The diagram of cycles of a run: a line for each row, with a column for each cycle (CS:APP 3e, figures 4.43 and 4.54),
+-- and with what the object text lists at each address.
 use Rattle.std.specs.Prelude.{ℕ, ◌+◌, ◌/◌, ◌%◌, Bool, true, false, ◌&&◌, ◌==◌, List, [], ◌∷◌, ◌++◌, map, codes, Option, Some, None, is_some, if◌then◌else◌}
 use Rattle.std.specs.List.{concat}
 use Rattle.dp_signals.specs.declared.register_updates.RegisterUpdate.{RegisterUpdate}
@@ -12,7 +12,7 @@ use Rattle.pipe_stage_text.specs.declared.diagram.DiagramCycle.{DiagramCycle}
 use Rattle.pipe_stage_text.specs.declared.stage_content.StageContent.{StageContent}
 use Rattle.pipe_stage_text.specs.declared.stage_contents.StageContents.{StageContents}
 
--- what stands in a stage is cancelled: the stage doesn't keep it, and the next one doesn't load it
+-- what a stage holds is cancelled: the stage doesn't keep it, and the next one doesn't load it
 abbrev pub lost : RegisterUpdate → RegisterUpdate → Bool
 lost Stay next = false
 lost Bubble Load = false
@@ -22,7 +22,7 @@ lost Load Load = false
 lost Load Stay = true
 lost Load Bubble = true
 
--- what is fetched is cancelled: D takes a bubble in its place, or stays while F goes on
+-- what is fetched is cancelled: D takes a bubble instead, or stays while F goes on
 abbrev pub fetch_lost : RegisterUpdate → RegisterUpdate → Bool
 fetch_lost f Load = false
 fetch_lost f Bubble = true
@@ -30,7 +30,7 @@ fetch_lost Stay Stay = false
 fetch_lost Bubble Stay = true
 fetch_lost Load Stay = true
 
--- a cycle as the diagram shows it; where the machine ends with it, nothing is cancelled
+-- a cycle as the diagram shows it; if the machine ends with it, nothing is cancelled
 unfoldable pub shown_cycle : ℕ → StageContents → StageContent → RegisterUpdates → Bool → DiagramCycle
 shown_cycle number watch fetch k going =
     record {
@@ -46,11 +46,11 @@ shown_cycle number watch fetch k going =
       m_lost = going && lost k.m k.w;
     }
 
--- the letter of a stage: small where what stands there is cancelled
+-- the letter of a stage: small if what it holds is cancelled
 abbrev pub letter : Bool → ℕ → ℕ → ℕ
 letter lost small capital = if lost then small else capital
 
--- the letter of the last stage in which a row stands, or a blank: `W`, `m` and `M`, `e` and `E`, `d` and `D`, `f` and `F`
+-- the letter of the last stage that holds a row, or a blank: `W`, `m` and `M`, `e` and `E`, `d` and `D`, `f` and `F`
 abbrev pub letter_of : ℕ → DiagramCycle → ℕ
 letter_of row s =
     if s.w.row == row then 87
@@ -60,7 +60,7 @@ letter_of row s =
     else (if s.f.row == row then letter s.f_lost 102 70
     else 32))))
 
--- what a row is, where it stands in a stage
+-- what a row is, if a stage holds it
 abbrev pub held_in : ℕ → DiagramCycle → Option StageContent
 held_in row s =
     if s.w.row == row then Some s.w
@@ -70,7 +70,7 @@ held_in row s =
     else (if s.f.row == row then Some s.f
     else None))))
 
--- the same in one of some cycles
+-- the same for any of several cycles
 unfoldable pub held_of : ℕ → List DiagramCycle → Option StageContent
 held_of row [] = None
 held_of row (s ∷ rest) = if is_some (held_in row s) then held_in row s else held_of row rest
@@ -82,7 +82,7 @@ column number = 32 ∷ (48 + number / 10 % 10) ∷ (48 + number % 10) ∷ []
 abbrev pub columns : List DiagramCycle → List ℕ
 columns cycles = concat (map (λ s. column s.number) cycles)
 
--- a letter stands below the last digit of its cycle
+-- each letter is below the last digit of its cycle
 abbrev pub letters : ℕ → List DiagramCycle → List ℕ
 letters row cycles = concat (map (λ s. 32 ∷ 32 ∷ letter_of row s ∷ []) cycles)
 
@@ -90,7 +90,7 @@ letters row cycles = concat (map (λ s. 32 ∷ 32 ∷ letter_of row s ∷ []) cy
 abbrev pub origin : StageContent → List ℕ
 origin h = if h.live then address h.addr ++ codes " " else []
 
--- what the object text lists where an instruction was fetched
+-- what the object text lists at the address of an instruction
 abbrev pub behind_bar : Option (List ℕ) → List ℕ
 behind_bar None = []
 behind_bar (Some text) = codes " | " ++ text
@@ -101,7 +101,7 @@ row_note listing h = if h.live then behind_bar (listing h.addr) else []
 unfoldable pub row_tail : (ℕ → Option (List ℕ)) → StageContent → List ℕ
 row_tail listing h = codes " | " ++ (origin h ++ (instruction h ++ (row_note listing h ++ codes "\n")))
 
--- the line of a row; none where it stands in no stage in these cycles
+-- the line of a row; none if no stage holds it in these cycles
 abbrev pub line_of : (ℕ → Option (List ℕ)) → ℕ → List DiagramCycle → Option StageContent → List ℕ
 line_of listing row cycles None = []
 line_of listing row cycles (Some h) = letters row cycles ++ row_tail listing h
@@ -109,7 +109,7 @@ line_of listing row cycles (Some h) = letters row cycles ++ row_tail listing h
 unfoldable pub row_line : (ℕ → Option (List ℕ)) → ℕ → List DiagramCycle → List ℕ
 row_line listing row cycles = line_of listing row cycles (held_of row cycles)
 
--- the rows are numbered from 1 on
+-- the rows are numbered from 1
 abbrev pub nth_line : (ℕ → Option (List ℕ)) → List DiagramCycle → ℕ → List ℕ
 nth_line listing cycles before = row_line listing (before + 1) cycles
 

@@ -1,4 +1,5 @@
--- The text of an instruction, as the assembler reads it (CS:APP 3e, figures 4.2 and 4.3), and the words for what is none.
+-- The text of an instruction, as the assembler reads it (CS:APP 3e, figures 4.2 and 4.3), and the texts for what isn't
+-- an instruction.
 use Rattle.std.specs.Prelude.{ℕ, Bool, List, [], ◌∷◌, ◌++◌, codes, slice_index_or, not, if◌then◌else◌}
 use Rattle.y86_base.specs.Numeral.{signed_decimal}
 use Rattle.y86_base.specs.declared.parts.Variant.TheVariants.{Full}
@@ -15,7 +16,7 @@ shape_of icode =
     (Alone ∷ Alone ∷ Registers ∷ Immediate ∷ Store ∷ Load ∷ Registers ∷ Target ∷ Target ∷ Alone ∷ Single ∷ Single ∷ Immediate ∷ [])
     icode Alone
 
--- the names of the icodes that several instructions share, by ifun
+-- the names of the icodes that several instructions have, by ifun
 unfoldable pub moves : List (List ℕ)
 moves = codes "rrmovq" ∷ codes "cmovle" ∷ codes "cmovl" ∷ codes "cmove" ∷ codes "cmovne" ∷ codes "cmovge" ∷ codes "cmovg" ∷ []
 
@@ -25,7 +26,7 @@ operations = codes "addq" ∷ codes "subq" ∷ codes "andq" ∷ codes "xorq" ∷
 unfoldable pub jumps : List (List ℕ)
 jumps = codes "jmp" ∷ codes "jle" ∷ codes "jl" ∷ codes "je" ∷ codes "jne" ∷ codes "jge" ∷ codes "jg" ∷ []
 
--- the name of an instruction: that of its icode, or of its ifun where its icode has several
+-- the name of an instruction: that of its icode, or of its ifun if several instructions have its icode
 unfoldable pub mnemonic : ℕ → ℕ → List ℕ
 mnemonic icode ifun =
     slice_index_or
@@ -64,11 +65,11 @@ operands Load h = load h
 operands Target h = target h
 operands Single h = single h
 
--- an instruction by its codes: an ifun that the instruction ignores may be any
+-- an instruction by its codes; an ifun that the instruction ignores may be any number
 abbrev pub is_valid : ℕ → ℕ → Bool
 is_valid icode ifun = is_instruction Full icode ifun
 
--- what a stage holds. A fetch fails where a byte of the instruction is outside the memory.
+-- The text of what a stage holds. A fetch fails if a byte of the instruction is outside the memory.
 unfoldable pub instruction : StageContent → List ℕ
 instruction h =
     if not h.live then codes "bubble"

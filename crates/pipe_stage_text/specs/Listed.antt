@@ -1,4 +1,4 @@
--- What an object text lists at an address: the text behind the `|` of the line whose bytes begin there.
+-- What an object text lists at an address: the text after the `|` of the line whose bytes begin there.
 use Rattle.std.specs.Prelude.{◌≡◌, ◌↔◌, ◌<◌, ◌^◌, ℕ, Bool, true, false, not, ◌==◌, nat_eq, nat_lt, if◌then◌else◌, List, [], ◌∷◌, ◌++◌, length, reverse, Option, Some, None, option_and_then, unwrap_or, Vec}
 use Rattle.std.specs.List.{AllByRecursion, list_all}
 use Rattle.std.specs.Map.{lookup}
@@ -8,14 +8,14 @@ use Rattle.y86_base.specs.Text.{after_byte, begins, behind, below_word, is_blank
 use Rattle.yo_object.specs.Grammar.{IsObjectLine, digits_in_line}
 use Rattle.yo_object.specs.ObjectText.{Digits}
 
--- the address of a line that is of the form and has bytes
+-- the address of a well-formed line with bytes
 abbrev pub address_behind : Digits → Option ℕ
 address_behind digits = if nat_lt 0 (length digits.bytes) then below_word (digits_value 16 digits.address) else None
 
 unfoldable pub address_of : List ℕ → Option ℕ
 address_of line = option_and_then address_behind (digits_in_line line)
 
--- what stands behind the first `|` of a line
+-- what follows the first `|` of a line
 abbrev pub is_before_bar : ℕ → Bool
 is_before_bar byte = not (byte == 124)
 
@@ -35,11 +35,11 @@ abbrev pub some_text : List ℕ → Option (List ℕ)
 some_text [] = None
 some_text (byte ∷ rest) = Some (byte ∷ rest)
 
--- the text that a line lists at an address: its own, where that isn't empty and the address is its own
+-- the text that a line lists at an address: the line's own text, if it isn't empty and the address is the line's
 unfoldable pub text_at : ℕ → List ℕ → Option (List ℕ)
 text_at address line = option_and_then (λ own. if nat_eq own address then some_text (text_of line) else None) (address_of line)
 
--- the text that some lines list at an address: that of the last one that lists one there
+-- the text that lines list at an address: the last line that lists one there counts
 unfoldable pub listed_in : ℕ → List (List ℕ) → Option (List ℕ)
 listed_in address [] = None
 listed_in address (line ∷ rest) = option_or (listed_in address rest) (text_at address line)
@@ -48,7 +48,7 @@ listed_in address (line ∷ rest) = option_or (listed_in address rest) (text_at 
 abbrev pub listed : List ℕ → ℕ → Option (List ℕ)
 listed object address = listed_in address (lines object)
 
--- ---- the table of these texts that the code makes: its entries are addresses and texts
+-- ---- the table of these texts in the code: its entries are addresses and texts
 
 unfoldable pub text_in : {A : Type 0} → List (ℕ × Vec ℕ A) → ℕ → Option (List ℕ)
 text_in {A} entries address = option_map (λ (text : Vec ℕ A). text.items) (lookup (nat_eq address) entries)
@@ -66,9 +66,9 @@ LastLineCounts =
 abbrev pub NoneIsListed : Type 0
 NoneIsListed = (address : ℕ) (all : List (List ℕ)) → AllByRecursion (ListsNone address) all → listed_in address all ≡ None
 
--- ---- a line, in the words of the form
+-- ---- a line, by the grammar
 
--- a text between blanks, which begins and ends with none
+-- a text between blanks that neither begins nor ends with a blank
 pub record IsBetween (whole text : List ℕ) : Type 0 where
   pub front : List ℕ
   pub back : List ℕ
@@ -78,7 +78,7 @@ pub record IsBetween (whole text : List ℕ) : Type 0 where
   pub starts : begins is_blank text ≡ false
   pub ends : begins is_blank (reverse text) ≡ false
 
--- a line of the form with an address and bytes, and a text behind its first `|`
+-- a well-formed line with an address and bytes, and a text after its first `|`
 pub record Lists (address : ℕ) (line text : List ℕ) : Type 0 where
   pub digits : List ℕ
   pub pairs : List ℕ

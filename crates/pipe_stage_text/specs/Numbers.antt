@@ -8,18 +8,19 @@ use Rattle.y86_base.specs.Stat.{stat_name, stat_of}
 unfoldable pub address : ℕ → List ℕ
 address n = codes "0x" ++ numeral 16 3 n
 
--- a register by its number: 15 is none, and a number that no register has is itself
+-- a register by its number: 15 is `-`, and a number that no register has is decimal
 unfoldable pub register : ℕ → List ℕ
 register n = if nat_lt n 15 then register_name n else (if n == 15 then codes "-" else numeral 10 1 n)
 
--- a function of the ALU by its number (figure 4.3), and a number that is no function in decimal
+-- a function of the ALU by its number (figure 4.3): a number that no function has is decimal
 unfoldable pub functions : List (List ℕ)
 functions = codes "add" ∷ codes "sub" ∷ codes "and" ∷ codes "xor" ∷ []
 
 unfoldable pub function : ℕ → List ℕ
 function n = if nat_lt n 4 then slice_index_or functions n [] else numeral 10 1 n
 
--- a key, with blanks around it, and its value: a text, a word, a register, a number, a function of the ALU, the status of a number
+-- a key, with blanks around it, and its value: a text, a word, a register, a number, an ALU function, or a status by
+-- its number
 unfoldable pub text_pair : List ℕ → List ℕ → List ℕ
 text_pair key text = key ++ text
 

@@ -27,8 +27,8 @@ use Rattle.pipe_stage_text.specs.declared.stage_content.StageContent.{StageConte
 use Rattle.pipe_stage_text.specs.declared.stage_contents.StageContents.{StageContents}
 use Rattle.pipe_stage_text.specs.declared.observer.CycleRange.{CycleRange}
 
--- a machine that is watched: its state, what stands in its stages, how many instructions retired, how it ended, the text of the cycles
--- so far, and what the diagram shows of them
+-- an observed machine: its state, what its stages hold, how many instructions retired, how it ended, the text of the
+-- cycles so far, and what the diagram shows of them
 pub record Observer : Type 0 where
   pub state : PipeState
   pub watch : StageContents
@@ -49,7 +49,7 @@ goes_on Pip = false
 abbrev pub is_within : CycleRange → ℕ → Bool
 is_within window number = nat_le window.from number && nat_le number window.to
 
--- what is shown of a cycle in lines, where tells says what the picks of the file tell of it, and in the diagram
+-- the lines that are shown of a cycle, and what the diagram shows of it; `tells` gives the sources of picked values
 abbrev pub lines_shown : ((ℕ → ℕ) → SourceNames) → CycleRange → ℕ → StageContents → StageContent → PipeState → (ℕ → ℕ) → List ℕ
 lines_shown tells window number watch fetch p f =
     if not window.diagram && is_within window number then cycle_text number watch fetch p f (tells f) else []
@@ -60,11 +60,11 @@ cycle_shown number watch fetch f = shown_cycle number watch fetch (requested_upd
 abbrev pub cycles_shown : CycleRange → ℕ → StageContents → StageContent → (ℕ → ℕ) → List DiagramCycle
 cycles_shown window number watch fetch f = if window.diagram && is_within window number then cycle_shown number watch fetch f ∷ [] else []
 
--- what the diagram shows of the next cycle of a watched machine
+-- what the diagram shows of the next cycle of an observed machine
 abbrev pub shown_of : ℕ → Observer → (ℕ → ℕ) → DiagramCycle
 shown_of number s f = cycle_shown number s.watch (fetched s.watch s.state f) f
 
--- the watched machine after the cycle of this number, with these values
+-- the observed machine after the cycle with this number and these values
 unfoldable pub after : ((ℕ → ℕ) → SourceNames) → CycleRange → ℕ → Observer → (ℕ → ℕ) → Observer
 after tells window number s f =
     let fetch = fetched s.watch s.state f in
@@ -74,14 +74,15 @@ after tells window number s f =
 abbrev pub first_seen : List ℕ → Observer
 first_seen image = seen (start_state image) first_watch 0 stat.Aok [] []
 
--- s is the watched machine of the design on an image after k cycles, before each of which it had not ended; the first cycle is number 1
+-- s is the observed machine of the design on an image after k cycles, before each of which it had not ended; cycles are
+-- numbered from 1
 abbrev pub Observes : Variant → List Term → CycleRange → List ℕ → ℕ → Observer → Type 0
 Observes v terms window image zero s = s ≡ first_seen image
 Observes v terms window image (suc k) s =
     (u : Observer) × (f : ℕ → ℕ) × Observes v terms window image k u × (is_aok u.end ≡ true) × Solves v terms u.state f
     × (s ≡ after (sources pipe_rows terms) window (suc k) u f)
 
--- the same at its end, or at the limit of cycles where it has none before
+-- the same at its end, or at the limit of cycles if it doesn't end before
 pub record ObservesTo (v : Variant) (terms : List Term) (window : CycleRange) (image : List ℕ) (limit k : ℕ) (s : Observer) : Type 0 where
   pub within : k ≤ limit
   pub watches : Observes v terms window image k s
@@ -101,7 +102,7 @@ abbrev pub ShowsRun : Variant → List Term → (ℕ → Option (List ℕ)) → 
 ShowsRun v terms listing window image limit text end =
     (k : ℕ) × (s : Observer) × ObservesTo v terms window image limit k s × (text ≡ whole_text listing window.diagram k s) × (end ≡ s.end)
 
--- ---- the watched machine is the machine of the run: its state, its end, and the number of its records
+-- ---- the observed machine is the machine of the run: its state, its end, and the number of its records
 
 pub record IsOfRun (s : Observer) (p : PipeHistory) : Type 0 where
   pub state : s.state ≡ p.state

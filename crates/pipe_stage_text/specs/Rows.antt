@@ -1,5 +1,5 @@
--- What the rows of a diagram say: each pipeline register holds the instruction or the bubble of its row, a row is one fetch or one bubble, and a small
--- letter says that no register holds the row in the next cycle.
+-- What the rows of a diagram mean: each pipeline register holds the instruction or the bubble of its row, a row is one
+-- fetch or one bubble, and a small letter means that no register holds the row in the next cycle.
 use Rattle.std.specs.Prelude.{◌≡◌, ◌≤◌, ℕ, suc, ◌+◌, Bool, true, false, not, ◌&&◌, ◌||◌, ◌==◌, List, if◌then◌else◌}
 use Rattle.y86_base.specs.declared.parts.Variant.{Variant}
 use Rattle.y86_isa.specs.Machine.{is_aok}
@@ -18,9 +18,9 @@ use Rattle.pipe_stage_text.specs.declared.stage_content.StageContent.{StageConte
 use Rattle.pipe_stage_text.specs.declared.stage_contents.StageContents.{StageContents}
 use Rattle.pipe_stage_text.specs.declared.observer.CycleRange.{CycleRange}
 
--- ---- what stands in the registers
+-- ---- what the registers hold
 
--- h is the instruction of a register, by its address, icode and ifun, or the bubble that is there
+-- h is the instruction in a register, by its address, icode and ifun, or the bubble in it
 pub record Holds (h : StageContent) (is_live : Bool) (from i fn : ℕ) : Type 0 where
   pub live : h.live ≡ is_live
   pub addr : h.addr ≡ from
@@ -33,7 +33,7 @@ pub record HoldsState (watch : StageContents) (p : PipeState) : Type 0 where
   pub m : Holds watch.m p.m.live p.m.trail.addr p.m.icode p.m.ifun
   pub w : Holds watch.w p.w.live p.w.trail.addr p.w.icode p.w.trail.ifun
 
--- each row of a register is one that there was, and so is that of the fetch that waits
+-- the row of each register, and that of the fetch that waits, are among the rows so far
 pub record IsNumbered (watch : StageContents) : Type 0 where
   pub kept : watch.kept.row ≤ watch.rows
   pub d : watch.d.row ≤ watch.rows
@@ -62,7 +62,7 @@ is_made_again f g = stays (requested_updates f).f && not (loads (requested_updat
 
 -- ---- letters
 
--- in which of F, D, E, M and W a row stands
+-- which of F, D, E, M and W hold a row
 pub record Stands (row : ℕ) (fetch : StageContent) (watch : StageContents) (in_f in_d in_e in_m in_w : Bool) : Type 0 where
   pub f : (fetch.row == row) ≡ in_f
   pub d : (watch.d.row == row) ≡ in_d
@@ -70,15 +70,16 @@ pub record Stands (row : ℕ) (fetch : StageContent) (watch : StageContents) (in
   pub m : (watch.m.row == row) ≡ in_m
   pub w : (watch.w.row == row) ≡ in_w
 
--- does a register hold a row
+-- whether any register holds a row
 abbrev pub is_held : ℕ → StageContents → Bool
 is_held row watch = watch.d.row == row || watch.e.row == row || watch.m.row == row || watch.w.row == row
 
 abbrev pub next_watch : Observer → (ℕ → ℕ) → StageContents
 next_watch s f = moved_watch s.watch (fetch_of s f) (requested_updates f)
 
--- of a row that stands in one stage alone, in the cycle of this number: its letter is small (`f`, `d`, `e`, `m`) exactly where no register holds it next; of
--- a fetch, where D doesn't hold it next and F and D don't both stay
+-- For a row that only one stage holds, in the cycle with this number: its letter is small (`f`, `d`, `e`, `m`) exactly
+-- if no register holds it next. The letter of a fetch is small exactly if D doesn't hold it next and F and D don't both
+-- stay.
 pub record LettersTell (number : ℕ) (s : Observer) (f : ℕ → ℕ) (row : ℕ) : Type 0 where
   pub in_f : Stands row (fetch_of s f) s.watch true false false false false →
       letter_of row (shown_of number s f)
@@ -98,7 +99,7 @@ abbrev pub EachRowTells : Type 0
 EachRowTells =
     (v : Variant) (terms : List Term) (window : CycleRange) (image : List ℕ) (k : ℕ) (s : Observer) → Observes v terms window image k s → RowsTell s
 
--- a fetch has the row of the fetch of the cycle before exactly where that is made again, and else a row that is new
+-- a fetch has the row of the fetch before exactly if that one is made again, and otherwise a new row
 abbrev pub EachFetchIsARow : Type 0
 EachFetchIsARow =
     (s t : Observer) (f g : ℕ → ℕ) → t.watch ≡ next_watch s f → (fetch_of t g).row ≡ (if is_made_again f g then (fetch_of s f).row else t.watch.rows + 1)

@@ -1,5 +1,5 @@
--- Where a signal's value comes from, as far as the picks of the file tell it (CS:APP 3e, section 4.5.5: Sel+Fwd A, Fwd B and Select PC): each of f_pc,
--- d_valA and d_valB is mostly a case list of names.
+-- Where a signal's value comes from, as far as a definition picks it by name (CS:APP 3e, section 4.5.5: Sel+Fwd A, Fwd
+-- B and Select PC): each of f_pc, d_valA and d_valB is mostly a case list of names.
 use Rattle.std.specs.Prelude.{◌≡◌, ℕ, ◌-◌, if◌then◌else◌, List, [], ◌∷◌, codes, slice_get, Option, Some, None, option_and_then}
 use Rattle.std.specs.Option.{option_map_or}
 use Rattle.hcl_tree.specs.declared.tree.CmpOp.{CmpOp}
@@ -14,7 +14,7 @@ use Rattle.dp_signals.specs.PipeNames as row
 use Rattle.dp_signals.specs.declared.pipe_state.PipeState.{PipeState}
 use Rattle.pipe_stage_text.specs.declared.picked.SourceNames as code
 
--- a word, and the name that it was picked by, if it was
+-- a word, and the name by which it was picked, if any
 pub record NamedWord : Type 0 where
   pub word : ℕ
   pub name : Option ℕ
@@ -31,16 +31,16 @@ picks = record {
   cmp = λ op x y. word_meaning.cmp op x.word y.word;
 }
 
--- a name is picked by itself
+-- a name picks itself
 abbrev pub by_name : (ℕ → ℕ) → ℕ → NamedWord
 by_name f id = record { word = f id; name = Some id }
 
--- the name that a term picks where f gives the values of names: a name is itself, a case list is what the value of its first branch whose guard holds
--- picks, and anything else picks nothing (`law_of_picks`)
+-- the name that a term picks; f has the values of names. A name picks itself, a case list picks what the value of its
+-- first branch whose guard holds picks, and anything else picks nothing (`law_of_picks`)
 unfoldable pub picked_name : (ℕ → ℕ) → Term → Option ℕ
 picked_name f t = (value picks (by_name f) t).name
 
--- ---- the same, term by term; and what is picked has the term's value
+-- ---- the same, term by term; and the picked name has the term's value
 
 pub record PicksByTerms (f : ℕ → ℕ) : Type 0 where
   pub names : (id : ℕ) → picked_name f (Name id) ≡ Some id
@@ -57,19 +57,19 @@ pub record PicksByTerms (f : ℕ → ℕ) : Type 0 where
 abbrev pub PicksTheValue : Type 0
 PicksTheValue = (f : ℕ → ℕ) (t : Term) (id : ℕ) → picked_name f t ≡ Some id → value word_meaning f t ≡ f id
 
--- ---- the names that are told of a cycle
+-- ---- the picked names of a cycle, as they are printed
 
--- the name that the definition of a row picks, where the file has one; first is the first row that a file defines
+-- the name that the definition of a row picks, if the file has one; `first` is the first row that a file defines
 abbrev pub name_picked : ℕ → List Term → (ℕ → ℕ) → ℕ → Option ℕ
 name_picked first terms f id = option_and_then (picked_name f) (slice_get terms (id - first))
 
--- where f_pc, d_valA and d_valB come from, as it is told
+-- where f_pc, d_valA and d_valB come from, as it is printed
 pub record SourceNames : Type 0 where
   pub pc : List ℕ
   pub val_a : List ℕ
   pub val_b : List ℕ
 
--- the name of a row, and `-` where there is none
+-- the name of a row, and `-` if there is none
 abbrev pub name_text : List Row → Option ℕ → List ℕ
 name_text rows None = codes "-"
 name_text rows (Some id) = option_map_or (λ (it : Row). it.name) (slice_get rows id) (codes "-")

@@ -1,4 +1,4 @@
--- What stands in the stages, by its row in the diagram: each move of a pipeline register moves what stands there.
+-- What the stages hold, by rows of the diagram: when a pipeline register moves, its contents move.
 use Rattle.std.specs.Prelude.{ℕ, ◌+◌, Bool, true, false, ◌&&◌, ◌==◌, if◌then◌else◌}
 use Rattle.y86_isa.specs.Blocks.{field_a, field_b}
 use Rattle.dp_signals.specs.PipeCycle.{moved}
@@ -15,7 +15,7 @@ use Rattle.pipe_stage_text.specs.declared.stage_contents.StageContents.{StageCon
 abbrev pub bubble : ℕ → StageContent
 bubble row = record { row = row; live = false; failed = false; addr = 0; icode = 1; ifun = 0; r_a = 15; r_b = 15; val_c = 0 }
 
--- before the first cycle
+-- the contents before the first cycle
 abbrev pub first_watch : StageContents
 first_watch = record { kept = bubble 0; d = bubble 0; e = bubble 0; m = bubble 0; w = bubble 0; rows = 0 }
 
@@ -41,13 +41,13 @@ fetched watch p f =
 abbrev pub rows_fetched : StageContents → ℕ → ℕ
 rows_fetched watch pc = if waits watch pc then watch.rows else watch.rows + 1
 
--- a register that is bubbled begins a row
+-- a bubble in a register begins a row
 abbrev pub bubbles : RegisterUpdate → ℕ
 bubbles Stay = 0
 bubbles Bubble = 1
 bubbles Load = 0
 
--- a fetch is made again where F stays and D doesn't load it
+-- a fetch is made again if F stays and D doesn't load it
 abbrev pub kept_behind : RegisterUpdate → RegisterUpdate → StageContent → StageContent
 kept_behind Stay Stay fetch = fetch
 kept_behind Stay Bubble fetch = fetch
@@ -58,7 +58,7 @@ kept_behind Load d fetch = bubble 0
 abbrev pub kept : RegisterUpdates → StageContent → StageContent
 kept k fetch = kept_behind k.f k.d fetch
 
--- what stands in the stages in the next cycle; of the bubbles of one cycle that in W has the first row
+-- what the stages hold in the next cycle; among the bubbles of one cycle the one in W has the first row
 unfoldable pub moved_watch : StageContents → StageContent → RegisterUpdates → StageContents
 moved_watch watch fetch k =
     let w_row = rows_fetched watch fetch.addr + bubbles k.w in

@@ -1,4 +1,4 @@
--- Which texts of an instruction say what: `bubble`, `failed fetch` and `invalid` are no names of instructions.
+-- What the texts of an instruction mean: `bubble`, `failed fetch` and `invalid` are no names of instructions.
 use Rattle.std.specs.Prelude.{◌≡◌, ◌↔◌, ℕ, List, true, false, codes}
 use Rattle.y86_base.specs.declared.parts.Stat.TheVariants.{Adr, Ins}
 use Rattle.y86_base.specs.declared.parts.Variant.{Variant}
@@ -22,7 +22,7 @@ IsBubble h = h.live ≡ false
 abbrev pub IsFailed : StageContent → Type 0
 IsFailed h = (h.live ≡ true) × (h.failed ≡ true)
 
--- its icode has no row in the instruction table, or its ifun is over the top of that row
+-- its icode has no row in the instruction table, or its ifun exceeds the largest of that row
 abbrev pub IsInvalid : StageContent → Type 0
 IsInvalid h = (h.live ≡ true) × (h.failed ≡ false) × (is_valid h.icode h.ifun ≡ false)
 
@@ -31,7 +31,7 @@ pub record TextsDiffer (h : StageContent) : Type 0 where
   pub failed : (instruction h ≡ codes "failed fetch") ↔ IsFailed h
   pub invalid : (instruction h ≡ codes "invalid") ↔ IsInvalid h
 
--- ---- and the run by instructions
+-- ---- compared with the run by instructions
 
 -- h is what is read at the PC of a machine
 pub record IsReadAt (v : Variant) (m : Machine) (h : StageContent) : Type 0 where
@@ -40,7 +40,8 @@ pub record IsReadAt (v : Variant) (m : Machine) (h : StageContent) : Type 0 wher
   pub icode : h.icode ≡ (reading v m.mem m.pc).icode
   pub ifun : h.ifun ≡ (reading v m.mem m.pc).ifun
 
--- `invalid` is what the run by instructions ends with INS, and a fetch failed where it is told an address error
+-- `invalid` is shown exactly if the run by instructions ends with INS, and `failed fetch` exactly if its fetch has
+-- status ADR
 pub record IsTextOfRun (v : Variant) (m : Machine) (h : StageContent) : Type 0 where
   pub invalid : (instruction h ≡ codes "invalid") ↔ ((advance v m).stat ≡ Ins)
   pub failed : (instruction h ≡ codes "failed fetch") ↔ ((work v m).fetch_stat ≡ Adr)
@@ -48,7 +49,7 @@ pub record IsTextOfRun (v : Variant) (m : Machine) (h : StageContent) : Type 0 w
 abbrev pub TextsAreOfRuns : Type 0
 TextsAreOfRuns = (v : Variant) (m : Machine) (h : StageContent) → is_aok m.stat ≡ true → IsReadAt v m h → IsTextOfRun v m h
 
--- what a cycle fetches is read at f_pc, where the file takes the icode and the ifun as they are read
+-- what a cycle fetches is read at f_pc, if the file takes the icode and the ifun as they are read
 abbrev pub FetchesWhatIsRead : Type 0
 FetchesWhatIsRead =
     (v : Variant) (terms : List Term) (p : PipeState) (f : ℕ → ℕ) (watch : StageContents) (m : Machine) → Solves v terms p f → m.mem ≡ p.mem → m.pc ≡ f row.f_pc →

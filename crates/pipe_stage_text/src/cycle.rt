@@ -21,22 +21,22 @@ const AOK: u64 = 1;
 
 const NO_REGISTER: u64 = 15;
 
-/// A cycle of a machine that is watched.
+/// A cycle of an observed machine.
 #[derive(Clone, Copy)]
 pub(crate) struct WatchedCycle<'a> {
     /// Its number; the first cycle of a run is number 1.
     pub number: u64,
-    /// The state of the machine as it begins.
+    /// The state of the machine at the beginning of the cycle.
     pub state: &'a PipeState,
     /// The values of its signals.
     pub values: &'a PipeValues,
-    /// What stands in the pipeline registers as it begins.
+    /// What the pipeline registers hold at the beginning of the cycle.
     pub watch: &'a StageContents,
     /// What it fetches.
     pub fetch: &'a StageContent,
 }
 
-/// What the file asks of a pipeline register.
+/// The update of a pipeline register that the file requests.
 fn next_word(stall: u64, bubble: u64) -> &'static [u8]
     ensures { result.now ≡ text.next_word (set stall) (set bubble) }
 {
@@ -49,7 +49,7 @@ fn next_word(stall: u64, bubble: u64) -> &'static [u8]
     }
 }
 
-/// Puts where the instruction in a stage was fetched from.
+/// Appends the address from which the instruction in a stage was fetched.
 fn put_place(out: &mut Vec<u8>, held: &StageContent) -> Result<(), Memory>
     ensures { OnOk result (out.new.items ≡ out.old.items ++ text.place held.now) }
 {
@@ -60,7 +60,7 @@ fn put_place(out: &mut Vec<u8>, held: &StageContent) -> Result<(), Memory>
     }
 }
 
-/// Puts the head of the line of a stage.
+/// Appends the head of the line of a stage.
 #[tactic(auto, unfolding(crate::specs::Cycle::head))]
 fn put_head(
     out: &mut Vec<u8>,
@@ -81,7 +81,7 @@ fn put_head(
     put_status_pair(out, b" stat ", stat)
 }
 
-/// Puts what stands in a stage, and ends the line.
+/// Appends what a stage holds, and ends the line.
 #[tactic(auto, unfolding(crate::specs::Cycle::tail))]
 fn put_tail(out: &mut Vec<u8>, held: &StageContent) -> Result<(), Memory>
     ensures { OnOk result (out.new.items ≡ out.old.items ++ text.tail held.now) }
@@ -328,7 +328,7 @@ fn bit(flag: bool) -> u64
     if flag { 1 } else { 0 }
 }
 
-/// Puts the line of the flags.
+/// Appends the line of the flags.
 #[tactic(auto, unfolding(crate::specs::Cycle::flags_line))]
 pub fn put_flags(out: &mut Vec<u8>, flags: Flags) -> Result<(), Memory>
     ensures { OnOk result (out.new.items ≡ out.old.items ++ text.flags_line flags) }
@@ -339,7 +339,7 @@ pub fn put_flags(out: &mut Vec<u8>, flags: Flags) -> Result<(), Memory>
     put(out, b"\n")
 }
 
-/// Puts the line of a register that is written; none for a number that no register has.
+/// Appends the line of a register that is written; none for a number that no register has.
 #[tactic(auto, unfolding(crate::specs::Cycle::register_lines))]
 fn put_written(out: &mut Vec<u8>, register: u64, word: u64) -> Result<(), Memory>
     ensures { OnOk result (out.new.items ≡ out.old.items ++ text.register_lines (text.written register word)) }
@@ -352,7 +352,7 @@ fn put_written(out: &mut Vec<u8>, register: u64, word: u64) -> Result<(), Memory
     put(out, b"\n")
 }
 
-/// Puts the lines of the registers that are written where `done` says so.
+/// Appends the lines of the registers that are written, if `done` is true.
 pub fn put_writes(
     out: &mut Vec<u8>,
     done: bool,
@@ -370,7 +370,7 @@ pub fn put_writes(
     put_written(out, dst_m, val_m)
 }
 
-/// Puts the lines of the registers that are written at the end of the cycle.
+/// Appends the lines of the registers that are written at the end of the cycle.
 #[tactic(auto, unfolding(crate::specs::Cycle::told_writes))]
 fn put_registers(out: &mut Vec<u8>, p: &PipeState, values: &PipeValues) -> Result<(), Memory>
     ensures { OnOk result (out.new.items ≡ out.old.items ++ text.register_lines (text.told_writes p.now (at values.now))) }
@@ -385,7 +385,7 @@ fn put_registers(out: &mut Vec<u8>, p: &PipeState, values: &PipeValues) -> Resul
     )
 }
 
-/// What is stored at the end of the cycle.
+/// The store at the end of the cycle.
 fn store_of(p: &PipeState, values: &PipeValues) -> Option<Store>
     ensures { result ≡ text.told_store p.now (at values.now) }
 {
@@ -397,7 +397,7 @@ fn store_of(p: &PipeState, values: &PipeValues) -> Option<Store>
     )
 }
 
-/// Puts the line of what is stored.
+/// Appends the line of a store.
 #[tactic(auto, unfolding(crate::specs::Cycle::store_line))]
 pub fn put_stored(out: &mut Vec<u8>, store: Option<Store>) -> Result<(), Memory>
     ensures { OnOk result (out.new.items ≡ out.old.items ++ text.store_line store) }
@@ -413,7 +413,7 @@ pub fn put_stored(out: &mut Vec<u8>, store: Option<Store>) -> Result<(), Memory>
     }
 }
 
-/// Puts the lines of the stages.
+/// Appends the lines of the stages.
 #[tactic(auto, unfolding(crate::specs::Cycle::stage_lines))]
 fn put_stages(
     out: &mut Vec<u8>,
@@ -433,7 +433,7 @@ fn put_stages(
     put_write(out, &watch.w, p, values)
 }
 
-/// Puts the lines of a cycle.
+/// Appends the lines of a cycle.
 #[tactic(auto, unfolding(crate::specs::Cycle::cycle_text))]
 pub(crate) fn put_cycle(
     out: &mut Vec<u8>,
@@ -451,7 +451,7 @@ pub(crate) fn put_cycle(
     put_stored(out, store_of(cycle.state, cycle.values))
 }
 
-/// Puts the line of the end of a run.
+/// Appends the line of the end of a run.
 #[tactic(auto, unfolding(crate::specs::Cycle::end_line))]
 pub fn put_end(out: &mut Vec<u8>, end: Stat, cycles: u64, retired: u64) -> Result<(), Memory>
     ensures { OnOk result (out.new.items ≡ out.old.items ++ text.end_line end cycles retired) }

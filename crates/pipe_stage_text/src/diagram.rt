@@ -12,7 +12,7 @@ use crate::stage_contents::StageContents;
 use dp_signals::{RegisterUpdate, RegisterUpdates};
 use y86_base::{Memory, put};
 
-/// What the diagram shows of a cycle: what stands in each stage, and of which stages it is cancelled at the end of the cycle.
+/// What the diagram shows of a cycle: what each stage holds, and whether it is cancelled at the end of the cycle.
 #[derive(Clone, Copy, Debug)]
 pub struct DiagramCycle {
     pub number: u64,
@@ -27,14 +27,14 @@ pub struct DiagramCycle {
     pub m_lost: bool,
 }
 
-/// Whether what stands in a stage is cancelled: the stage doesn't keep it, and the next one doesn't load it.
+/// Whether what a stage holds is cancelled: the stage doesn't keep it, and the next one doesn't load it.
 fn lost(update: RegisterUpdate, next: RegisterUpdate) -> bool
     ensures { result ≡ text.lost update next }
 {
     !matches!(update, RegisterUpdate::Stay) && !matches!(next, RegisterUpdate::Load)
 }
 
-/// Whether what is fetched is cancelled: D takes a bubble in its place, or stays while F goes on.
+/// Whether what is fetched is cancelled: D takes a bubble instead, or stays while F goes on.
 fn fetch_lost(f: RegisterUpdate, d: RegisterUpdate) -> bool
     ensures { result ≡ text.fetch_lost f d }
 {
@@ -45,7 +45,7 @@ fn fetch_lost(f: RegisterUpdate, d: RegisterUpdate) -> bool
     }
 }
 
-/// What the diagram shows of a cycle. Where the machine ends with it, nothing is cancelled.
+/// What the diagram shows of a cycle. If the machine ends with it, nothing is cancelled.
 #[tactic(auto, unfolding(crate::specs::Diagram::shown_cycle))]
 pub(crate) fn shown_cycle(
     number: u64,
@@ -70,14 +70,14 @@ pub(crate) fn shown_cycle(
     }
 }
 
-/// The letter of a stage: small where it is the last one of what is cancelled.
+/// The letter of a stage: small if what it holds is cancelled.
 fn letter(lost: bool, small: u8, capital: u8) -> u8
     ensures { result ≡ text.letter lost small capital }
 {
     if lost { small } else { capital }
 }
 
-/// The letter of the stage in which a row stands in a cycle, or a blank. Where it stands in two, it is the later one.
+/// The letter of the stage that holds a row in a cycle, or a blank. If two stages hold it, it is the later one's.
 fn letter_of(row: u64, shown: &DiagramCycle) -> u8
     ensures { result ≡ text.letter_of row shown.now }
 {
@@ -96,7 +96,7 @@ fn letter_of(row: u64, shown: &DiagramCycle) -> u8
     }
 }
 
-/// What a row is, where it stands in a stage in a cycle.
+/// What a row is, if a stage holds it in a cycle.
 fn held_in(row: u64, shown: &DiagramCycle) -> Option<StageContent>
     ensures { result ≡ text.held_in row shown.now }
 {
@@ -115,7 +115,7 @@ fn held_in(row: u64, shown: &DiagramCycle) -> Option<StageContent>
     }
 }
 
-/// What a row is, where it stands in a stage in one of the cycles.
+/// What a row is, if a stage holds it in one of the cycles.
 #[tactic(auto, unfolding(crate::specs::Diagram::held_of))]
 fn held_of(row: u64, cycles: &[DiagramCycle]) -> Option<StageContent>
     ensures { result ≡ text.held_of row cycles.now }
@@ -128,7 +128,7 @@ fn held_of(row: u64, cycles: &[DiagramCycle]) -> Option<StageContent>
     None
 }
 
-/// Puts the last two digits of a cycle's number.
+/// Appends the last two digits of a cycle's number.
 #[tactic(auto, unfolding(crate::specs::Diagram::column))]
 fn put_column(out: &mut Vec<u8>, number: u64) -> Result<(), Memory>
     ensures { OnOk result (out.new.items ≡ out.old.items ++ text.column number) }
@@ -138,7 +138,7 @@ fn put_column(out: &mut Vec<u8>, number: u64) -> Result<(), Memory>
     put(out, &[b' ', b'0' + tens as u8, b'0' + ones as u8])
 }
 
-/// Puts the line of the cycles' numbers.
+/// Appends the line of the cycles' numbers.
 fn put_columns(out: &mut Vec<u8>, cycles: &[DiagramCycle]) -> Result<(), Memory>
     ensures { OnOk result (out.new.items ≡ out.old.items ++ text.columns cycles.now) }
 {
@@ -151,7 +151,7 @@ fn put_columns(out: &mut Vec<u8>, cycles: &[DiagramCycle]) -> Result<(), Memory>
     Ok(())
 }
 
-/// Puts the letters of a row.
+/// Appends the letters of a row.
 fn put_letters(out: &mut Vec<u8>, row: u64, cycles: &[DiagramCycle]) -> Result<(), Memory>
     ensures { OnOk result (out.new.items ≡ out.old.items ++ text.letters row cycles.now) }
 {
@@ -164,7 +164,7 @@ fn put_letters(out: &mut Vec<u8>, row: u64, cycles: &[DiagramCycle]) -> Result<(
     Ok(())
 }
 
-/// Puts what the object text lists where an instruction was fetched.
+/// Appends what the object text lists at the address of an instruction.
 fn put_note(out: &mut Vec<u8>, listing: &Listing, held: &StageContent) -> Result<(), Memory>
     ensures { OnOk result (out.new.items ≡ out.old.items ++ text.row_note (text_in listing.now.entries) held.now) }
 {
@@ -180,7 +180,7 @@ fn put_note(out: &mut Vec<u8>, listing: &Listing, held: &StageContent) -> Result
     }
 }
 
-/// Puts what a row is: the address, the instruction and what is listed there, or a bubble.
+/// Appends what a row is: the address, the instruction and what is listed there, or a bubble.
 #[tactic(auto, unfolding(crate::specs::Diagram::row_tail))]
 fn put_row_tail(out: &mut Vec<u8>, listing: &Listing, held: &StageContent) -> Result<(), Memory>
     ensures { OnOk result (out.new.items ≡ out.old.items ++ text.row_tail (text_in listing.now.entries) held.now) }
@@ -195,7 +195,7 @@ fn put_row_tail(out: &mut Vec<u8>, listing: &Listing, held: &StageContent) -> Re
     put(out, b"\n")
 }
 
-/// Puts the line of a row, where it stands in a stage in one of the cycles.
+/// Appends the line of a row, if a stage holds it in one of the cycles.
 #[tactic(auto, unfolding(crate::specs::Diagram::row_line))]
 fn put_row(
     out: &mut Vec<u8>,
@@ -214,7 +214,7 @@ fn put_row(
     }
 }
 
-/// Puts the lines of the rows from 1 on.
+/// Appends the lines of the rows, from row 1 on.
 fn put_rows(
     out: &mut Vec<u8>,
     listing: &Listing,
@@ -233,7 +233,7 @@ fn put_rows(
     Ok(())
 }
 
-/// Puts the diagram of some cycles of a run that had so many rows.
+/// Appends the diagram of cycles of a run with this number of rows.
 #[tactic(auto, unfolding(crate::specs::Diagram::diagram))]
 pub(crate) fn put_diagram(
     out: &mut Vec<u8>,

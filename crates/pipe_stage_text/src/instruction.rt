@@ -121,7 +121,7 @@ fn mnemonic(icode: u64, ifun: u64) -> &'static [u8]
     }
 }
 
-/// Puts two registers.
+/// Appends two registers.
 fn put_registers(out: &mut Vec<u8>, held: &StageContent) -> Result<(), Memory>
     ensures { OnOk result (out.new.items ≡ out.old.items ++ text.two_registers held.now) }
 {
@@ -131,7 +131,7 @@ fn put_registers(out: &mut Vec<u8>, held: &StageContent) -> Result<(), Memory>
     put_register(out, held.r_b)
 }
 
-/// Puts a constant and a register.
+/// Appends a constant and a register.
 fn put_immediate(out: &mut Vec<u8>, held: &StageContent) -> Result<(), Memory>
     ensures { OnOk result (out.new.items ≡ out.old.items ++ text.immediate held.now) }
 {
@@ -141,7 +141,7 @@ fn put_immediate(out: &mut Vec<u8>, held: &StageContent) -> Result<(), Memory>
     put_register(out, held.r_b)
 }
 
-/// Puts a place in memory.
+/// Appends a place in memory.
 fn put_place(out: &mut Vec<u8>, held: &StageContent) -> Result<(), Memory>
     ensures { OnOk result (out.new.items ≡ out.old.items ++ text.place held.now) }
 {
@@ -151,7 +151,7 @@ fn put_place(out: &mut Vec<u8>, held: &StageContent) -> Result<(), Memory>
     put(out, b")")
 }
 
-/// Puts a register and a place in memory.
+/// Appends a register and a place in memory.
 fn put_store(out: &mut Vec<u8>, held: &StageContent) -> Result<(), Memory>
     ensures { OnOk result (out.new.items ≡ out.old.items ++ text.store held.now) }
 {
@@ -161,7 +161,7 @@ fn put_store(out: &mut Vec<u8>, held: &StageContent) -> Result<(), Memory>
     put_place(out, held)
 }
 
-/// Puts a place in memory and a register.
+/// Appends a place in memory and a register.
 fn put_load(out: &mut Vec<u8>, held: &StageContent) -> Result<(), Memory>
     ensures { OnOk result (out.new.items ≡ out.old.items ++ text.load held.now) }
 {
@@ -171,7 +171,7 @@ fn put_load(out: &mut Vec<u8>, held: &StageContent) -> Result<(), Memory>
     put_register(out, held.r_a)
 }
 
-/// Puts the address to which an instruction goes.
+/// Appends the target address of an instruction.
 fn put_target(out: &mut Vec<u8>, held: &StageContent) -> Result<(), Memory>
     ensures { OnOk result (out.new.items ≡ out.old.items ++ text.target held.now) }
 {
@@ -179,7 +179,7 @@ fn put_target(out: &mut Vec<u8>, held: &StageContent) -> Result<(), Memory>
     put_address(out, held.val_c)
 }
 
-/// Puts one register.
+/// Appends one register.
 fn put_single(out: &mut Vec<u8>, held: &StageContent) -> Result<(), Memory>
     ensures { OnOk result (out.new.items ≡ out.old.items ++ text.single held.now) }
 {
@@ -187,7 +187,7 @@ fn put_single(out: &mut Vec<u8>, held: &StageContent) -> Result<(), Memory>
     put_register(out, held.r_a)
 }
 
-/// Puts the operands of an instruction.
+/// Appends the operands of an instruction.
 #[tactic(auto, unfolding(crate::specs::Instruction::operands))]
 fn put_operands(out: &mut Vec<u8>, held: &StageContent) -> Result<(), Memory>
     ensures { OnOk result (out.new.items ≡ out.old.items ++ text.operands (text.shape_of held.now.icode) held.now) }
@@ -203,7 +203,7 @@ fn put_operands(out: &mut Vec<u8>, held: &StageContent) -> Result<(), Memory>
     }
 }
 
-/// Puts what a stage holds: an instruction with its operands, a bubble, or a fetch that failed.
+/// Appends what a stage holds: an instruction with its operands, a bubble, or a fetch that failed.
 #[tactic(auto, unfolding(crate::specs::Instruction::instruction))]
 pub fn put_instruction(out: &mut Vec<u8>, held: &StageContent) -> Result<(), Memory>
     ensures { OnOk result (out.new.items ≡ out.old.items ++ text.instruction held.now) }

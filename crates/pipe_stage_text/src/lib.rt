@@ -1,4 +1,4 @@
-//! The stages of the pipeline as text: what stands in each of them cycle by cycle, and the book's diagrams of a run.
+//! The stages of the pipeline as text: what each of them holds cycle by cycle, and the book's diagrams of a run.
 #![tactic(auto)]
 
 mod cycle;

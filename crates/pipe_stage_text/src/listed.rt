@@ -1,4 +1,4 @@
-//! What an object text lists at addresses.
+//! Reads from an object text what it lists at each address, for the diagram.
 ghost use Rattle.std.specs.Prelude.{◌≡◌, ◌≤◌, ℕ, true, IfOk, OnOk, Some, if◌then◌else◌, length, nat_eq, reverse};
 ghost use Rattle.std.specs.List.{prefix_len};
 ghost use Rattle.std.specs.Option.{option_copied, option_or};
@@ -14,7 +14,7 @@ use yo_object::{LineDigits, line_digits};
 /// The texts by their addresses.
 pub(crate) type Listing = IndexMap<u64, Vec<u8>>;
 
-/// The address that digits write, where they write bytes there.
+/// The address that digits denote, if they write bytes there.
 fn address_behind(digits: &LineDigits<'_>) -> Option<u64>
     ensures { result ≡ spec.address_behind (digits_in digits.now) }
 {
@@ -24,7 +24,7 @@ fn address_behind(digits: &LineDigits<'_>) -> Option<u64>
     number_in_base(16, digits.address)
 }
 
-/// The address of a line that is of the form and has bytes.
+/// The address of a well-formed line with bytes.
 #[tactic(auto, unfolding(crate::specs::Listed::address_of))]
 fn address_of(line: &[u8]) -> Option<u64>
     ensures { result ≡ spec.address_of line.now }
@@ -41,7 +41,7 @@ fn is_before_bar(byte: u8) -> bool
     byte != b'|'
 }
 
-/// How many bytes stand in front of the first `|`.
+/// The number of bytes before the first `|`.
 fn bar_place(line: &[u8]) -> usize
     ensures place { result ≡ prefix_len spec.is_before_bar line.now }
     ensures within { result ≤ length line.now }
@@ -49,7 +49,7 @@ fn bar_place(line: &[u8]) -> usize
     line.iter().take_while(|byte| is_before_bar(**byte)).count()
 }
 
-/// What stands behind the first `|` of a line.
+/// What follows the first `|` of a line.
 fn comment_of(line: &[u8]) -> &[u8]
     ensures { result.now ≡ spec.comment_of line.now }
 {
@@ -59,7 +59,7 @@ fn comment_of(line: &[u8]) -> &[u8]
     }
 }
 
-/// How many blanks stand at the end.
+/// The number of blanks at the end.
 fn blanks_at_end(text: &[u8]) -> usize
     ensures count { result ≡ prefix_len is_blank (reverse text.now) }
     ensures within { result ≤ length text.now }
@@ -95,7 +95,7 @@ fn some_text(text: &[u8]) -> Option<&[u8]>
     }
 }
 
-/// Puts a text at an address, in the place of one that stands there.
+/// Stores a text at an address, and replaces one that is there.
 fn put_text(alloc: Global, listing: &mut Listing, address: u64, text: &[u8]) -> Result<(), Memory>
     ensures { OnOk result ((place : ℕ) → spec.text_in listing.new.entries place ≡ (if nat_eq address place then Some text.now else spec.text_in listing.old.entries place)) }
 {
@@ -108,7 +108,7 @@ fn put_text(alloc: Global, listing: &mut Listing, address: u64, text: &[u8]) -> 
     }
 }
 
-/// Puts the text that a line lists.
+/// Stores the text that a line lists.
 fn put_line(alloc: Global, listing: &mut Listing, line: &[u8]) -> Result<(), Memory>
     ensures { OnOk result ((place : ℕ) → spec.text_in listing.new.entries place ≡ option_or (spec.text_at place line.now) (spec.text_in listing.old.entries place)) }
 {
@@ -137,7 +137,8 @@ fn listing_of(alloc: Global, object: &[u8]) -> Result<Listing, Memory>
     Ok(listing)
 }
 
-/// What an object text lists at addresses, where the diagram is asked for, which alone tells it; else nothing is listed.
+/// What an object text lists at addresses, if the diagram is asked for. Only the diagram needs it; otherwise nothing is
+/// listed.
 pub(crate) fn listing_for(alloc: Global, object: &[u8], diagram: bool) -> Result<Listing, Memory>
     ensures { IfOk result (λ listing. diagram ≡ true → (place : ℕ) → spec.text_in listing.entries place ≡ spec.listed object.now place) }
 {

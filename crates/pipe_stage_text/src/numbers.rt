@@ -6,10 +6,10 @@ use y86_base::{Memory, Numeral, Regs, Stat, put};
 
 const NO_REGISTER: u64 = 15;
 
-/// How many functions the ALU has.
+/// The number of functions of the ALU.
 const ALU_FUNCTIONS: u64 = 4;
 
-/// Puts an address.
+/// Appends an address.
 #[tactic(auto, unfolding(crate::specs::Numbers::address))]
 pub fn put_address(out: &mut Vec<u8>, n: u64) -> Result<(), Memory>
     ensures { OnOk result (out.new.items ≡ out.old.items ++ text.address n) }
@@ -18,7 +18,7 @@ pub fn put_address(out: &mut Vec<u8>, n: u64) -> Result<(), Memory>
     put(out, Numeral::hex(3, n).as_bytes())
 }
 
-/// Puts a register by its number.
+/// Appends a register by its number.
 #[tactic(auto, unfolding(crate::specs::Numbers::register))]
 pub(crate) fn put_register(out: &mut Vec<u8>, n: u64) -> Result<(), Memory>
     ensures { OnOk result (out.new.items ≡ out.old.items ++ text.register n) }
@@ -32,7 +32,7 @@ pub(crate) fn put_register(out: &mut Vec<u8>, n: u64) -> Result<(), Memory>
     }
 }
 
-/// Puts a key and a text.
+/// Appends a key and a text.
 #[tactic(auto, unfolding(crate::specs::Numbers::text_pair))]
 pub fn put_text_pair(out: &mut Vec<u8>, key: &[u8], value: &[u8]) -> Result<(), Memory>
     ensures { OnOk result (out.new.items ≡ out.old.items ++ text.text_pair key.now value.now) }
@@ -41,7 +41,7 @@ pub fn put_text_pair(out: &mut Vec<u8>, key: &[u8], value: &[u8]) -> Result<(), 
     put(out, value)
 }
 
-/// Puts a key and a word.
+/// Appends a key and a word.
 #[tactic(auto, unfolding(crate::specs::Numbers::word_pair))]
 pub fn put_word_pair(out: &mut Vec<u8>, key: &[u8], n: u64) -> Result<(), Memory>
     ensures { OnOk result (out.new.items ≡ out.old.items ++ text.word_pair key.now n) }
@@ -51,7 +51,7 @@ pub fn put_word_pair(out: &mut Vec<u8>, key: &[u8], n: u64) -> Result<(), Memory
     put(out, Numeral::hex(1, n).as_bytes())
 }
 
-/// Puts a key and a register.
+/// Appends a key and a register.
 #[tactic(auto, unfolding(crate::specs::Numbers::register_pair))]
 pub fn put_register_pair(out: &mut Vec<u8>, key: &[u8], n: u64) -> Result<(), Memory>
     ensures { OnOk result (out.new.items ≡ out.old.items ++ text.register_pair key.now n) }
@@ -60,7 +60,7 @@ pub fn put_register_pair(out: &mut Vec<u8>, key: &[u8], n: u64) -> Result<(), Me
     put_register(out, n)
 }
 
-/// Puts a key and a number.
+/// Appends a key and a number.
 #[tactic(auto, unfolding(crate::specs::Numbers::number_pair))]
 pub fn put_number_pair(out: &mut Vec<u8>, key: &[u8], n: u64) -> Result<(), Memory>
     ensures { OnOk result (out.new.items ≡ out.old.items ++ text.number_pair key.now n) }
@@ -83,7 +83,7 @@ fn function_name(n: u64) -> &'static [u8]
     }
 }
 
-/// Puts a function of the ALU by its number.
+/// Appends a function of the ALU by its number.
 #[tactic(auto, unfolding(crate::specs::Numbers::function))]
 fn put_function(out: &mut Vec<u8>, n: u64) -> Result<(), Memory>
     ensures { OnOk result (out.new.items ≡ out.old.items ++ text.function n) }
@@ -95,7 +95,7 @@ fn put_function(out: &mut Vec<u8>, n: u64) -> Result<(), Memory>
     }
 }
 
-/// Puts a key and a function of the ALU.
+/// Appends a key and a function of the ALU.
 #[tactic(auto, unfolding(crate::specs::Numbers::function_pair))]
 pub fn put_function_pair(out: &mut Vec<u8>, key: &[u8], n: u64) -> Result<(), Memory>
     ensures { OnOk result (out.new.items ≡ out.old.items ++ text.function_pair key.now n) }
@@ -104,7 +104,7 @@ pub fn put_function_pair(out: &mut Vec<u8>, key: &[u8], n: u64) -> Result<(), Me
     put_function(out, n)
 }
 
-/// Puts a key and the status of a number.
+/// Appends a key and a status by its number.
 #[tactic(auto, unfolding(crate::specs::Numbers::status_pair))]
 pub fn put_status_pair(out: &mut Vec<u8>, key: &[u8], n: u64) -> Result<(), Memory>
     ensures { OnOk result (out.new.items ≡ out.old.items ++ text.status_pair key.now n) }

@@ -39,18 +39,19 @@ pub struct CycleRange {
     pub diagram: bool,
 }
 
-/// A run that is to be shown.
+/// The parameters of a run that is shown.
 #[derive(Drop)]
 pub struct WatchRequest {
-    /// The memory as the run begins.
+    /// The memory at the beginning of the run.
     pub image: Image,
-    /// The most cycles that are done.
+    /// The most cycles.
     pub limit: u64,
-    /// Which of them are shown.
+    /// Which cycles are shown, and how.
     pub window: CycleRange,
 }
 
-/// A machine that is watched: its state, what stands in its stages, the text of the cycles so far, or what the diagram shows of them.
+/// An observed machine: its state, what its stages hold, the text of the cycles so far, or what the diagram shows of
+/// them.
 #[derive(Drop)]
 struct Observer {
     state: PipeState,
@@ -69,7 +70,7 @@ impl Model for Observer {
     ghost view = { λ s. seen s.state s.watch s.retired s.end s.text.items s.cycles.items };
 }
 
-/// What was shown of a run, and how it ended: AOK where it came to the limit.
+/// What is shown of a run, and how it ended: AOK if it reached the limit.
 #[derive(Drop)]
 pub struct ObservedRun {
     pub text: Vec<u8>,
@@ -95,7 +96,7 @@ pub fn is_within(window: &CycleRange, number: u64) -> bool
     window.from <= number && number <= window.to
 }
 
-/// Puts what is shown of a cycle in lines.
+/// Appends the lines that are shown of a cycle.
 fn put_lines(
     out: &mut Vec<u8>,
     processor: &ProcessorDesign<'_>,
@@ -114,7 +115,7 @@ fn put_lines(
     }
 }
 
-/// Puts what the diagram shows of a cycle.
+/// Appends what the diagram shows of a cycle.
 fn put_shown(
     cycles: &mut Vec<DiagramCycle>,
     window: &CycleRange,
@@ -140,7 +141,7 @@ fn put_shown(
     }
 }
 
-/// Keeps what is shown of the cycle of this number, with these values, and does it.
+/// Does the cycle with this number and these values, and keeps what is shown of it.
 fn step(
     s: &mut Observer,
     processor: &ProcessorDesign<'_>,
@@ -171,14 +172,15 @@ fn step(
     Ok(())
 }
 
-/// The state of a machine that is watched.
+/// The state of an observed machine.
 fn state_of(s: &Observer) -> &PipeState
     ensures { result.now ≡ s.now.state }
 {
     &s.state
 }
 
-/// Does the cycle of this number, and keeps what is shown of it. `fits` is the evaluator's answer about the constants.
+/// Does the cycle with this number, and keeps what is shown of it. `fits` is the evaluator's answer about the
+/// constants.
 fn cycle<C: SignalEval>(
     s: &mut Observer,
     processor: &ProcessorDesign<'_>,
@@ -216,7 +218,7 @@ fn cycle<C: SignalEval>(
     step(s, processor, window, number, &values)
 }
 
-/// Puts the diagram, where it is asked for, and the line of the end.
+/// Appends the diagram, if it is asked for, and the line of the end.
 #[tactic(auto, unfolding(crate::specs::Observer::whole_text))]
 fn finished(
     s: Observer,
@@ -285,7 +287,8 @@ fn watch_listed<C: SignalEval>(
     finished(s, listing, window.diagram, limit)
 }
 
-/// Runs the image of an object text on PIPE under a design to its end or to the limit of cycles, and gives what is shown of it.
+/// Runs the image of an object text on PIPE under a design to its end or to the limit of cycles, and returns what is
+/// shown of it.
 pub fn watch_run<C: SignalEval>(
     alloc: Global,
     processor: &ProcessorDesign<'_>,

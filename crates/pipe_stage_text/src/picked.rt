@@ -1,4 +1,4 @@
-//! Where the values of f_pc, d_valA and d_valB come from in a cycle, as far as the picks of the file tell it.
+//! Where the values of f_pc, d_valA and d_valB come from in a cycle, as far as a definition picks them by name.
 ghost use Rattle.std.specs.Prelude.{◌≡◌, ◌≤◌};
 ghost use Rattle.hcl_types.specs.Terms.{at};
 ghost use Rattle.hcl_types.specs.declared.term.Term.TheVariants.{Case};
@@ -7,7 +7,7 @@ ghost use Rattle.pipe_stage_text.specs.Sources as spec;
 use dp_signals::pipe_row as row;
 use hcl_types::{Design, NameId, Row, Term, TermBranch, value_of};
 
-/// The names that the definitions of f_pc, d_valA and d_valB pick in a cycle, as they are told.
+/// The names that the definitions of f_pc, d_valA and d_valB pick in a cycle, as they are printed.
 #[derive(Clone, Copy)]
 pub struct SourceNames<'a> {
     pub pc: &'a [u8],
@@ -15,7 +15,7 @@ pub struct SourceNames<'a> {
     pub val_b: &'a [u8],
 }
 
-/// The name that a term picks: it is one, or stands behind the first guards that hold.
+/// The name that a term picks: the term itself, or what the first branch whose guard holds picks.
 #[cycle(picking)]
 fn picked_name(t: &Term, values: &[u64]) -> Option<NameId>
     ensures { result ≡ spec.picked_name (at values.now) t.now }
@@ -32,7 +32,7 @@ fn picked_name(t: &Term, values: &[u64]) -> Option<NameId>
     }
 }
 
-/// The name that the first branch picks whose guard holds.
+/// The name that the first branch whose guard holds picks.
 #[cycle(picking)]
 fn picked_branch(all: &[TermBranch], values: &[u64]) -> Option<NameId>
     ensures { result ≡ spec.picked_name (at values.now) (Case all.now) }
@@ -56,7 +56,7 @@ fn picked_of(design: &Design, values: &[u64], first: NameId, id: NameId) -> Opti
     }
 }
 
-/// The name of a row, and `-` where there is none.
+/// The name of a row, and `-` if there is none.
 fn name_text(rows: &[Row], id: Option<NameId>) -> &[u8]
     ensures { result.now ≡ spec.name_text rows.now id }
 {
@@ -69,7 +69,8 @@ fn name_text(rows: &[Row], id: Option<NameId>) -> &[u8]
     }
 }
 
-/// The name that the definition of the row `id` picks in a cycle with these values, and `-` where it picks none. `first` is the first row that a file defines.
+/// The name that the definition of the row `id` picks in a cycle with these values, and `-` if it picks none. `first`
+/// is the first row that a file defines.
 pub fn source<'a>(
     rows: &'a [Row],
     design: &Design,

@@ -1,9 +1,9 @@
-//! What stands in a stage.
+//! What a stage holds.
 ghost use Rattle.std.specs.Prelude.{◌≡◌};
 ghost use Rattle.pipe_stage_text.specs.StageContents as spec;
 
-/// What a stage holds: its row in the diagram, and of an instruction its address and its fetched fields. `failed` says that a byte of the instruction is
-/// outside the memory.
+/// What a stage holds: its row in the diagram, and for an instruction its address and its fetched fields. `failed`
+/// means that a byte of the instruction is outside the memory.
 #[derive(Clone, Copy, Debug, PartialEq, Eq)]
 pub struct StageContent {
     pub row: u64,

@@ -1,4 +1,4 @@
-//! What stands in the stages, by its row in the diagram: each move of a pipeline register moves what stands there.
+//! What the stages hold, by rows of the diagram: when a pipeline register moves, its contents move.
 ghost use Rattle.std.specs.Prelude.{◌≡◌, ◌≤◌, ◌<◌, ◌+◌, ◌^◌};
 ghost use Rattle.dp_signals.specs.PipeCycle as pipe;
 ghost use Rattle.y86_base.specs.Words.{set};
@@ -9,8 +9,8 @@ use crate::stage_content::StageContent;
 use dp_signals::{PipeState, PipeValues, RegisterUpdate, RegisterUpdates, at, pipe_row as row};
 use y86_isa::register_fields;
 
-/// What stands in the pipeline registers as a cycle begins; the fetch of the cycle before, where it waits, else a bubble of row 0; and how many rows there
-/// were.
+/// What the pipeline registers hold at the beginning of a cycle; the fetch of the cycle before, if it waits, otherwise
+/// a bubble of row 0; and the number of rows so far.
 #[derive(Clone, Copy, Debug)]
 pub struct StageContents {
     pub kept: StageContent,
@@ -21,7 +21,7 @@ pub struct StageContents {
     pub rows: u64,
 }
 
-/// What stands in the stages before the first cycle: bubbles that have no row.
+/// What the stages hold before the first cycle: bubbles without a row.
 pub(crate) fn first_watch() -> StageContents
     ensures { result ≡ spec.first_watch }
 {
@@ -48,7 +48,7 @@ fn update_by(stall: u64, bubble: u64) -> RegisterUpdate
     }
 }
 
-/// What the file asks of the pipeline registers.
+/// The updates of the pipeline registers that the file requests.
 pub(crate) fn requested_updates(values: &PipeValues) -> RegisterUpdates
     ensures { result ≡ pipe.requested_updates (at values.now) }
 {
@@ -61,7 +61,7 @@ pub(crate) fn requested_updates(values: &PipeValues) -> RegisterUpdates
     }
 }
 
-/// Whether the fetch from this address is that of the cycle before, which waits.
+/// Whether the fetch from this address is the one of the cycle before, which waits.
 fn waits(watch: &StageContents, pc: u64) -> bool
     ensures { result ≡ spec.waits watch.now pc }
 {
@@ -93,7 +93,7 @@ pub(crate) fn fetched(watch: &StageContents, p: &PipeState, values: &PipeValues)
     }
 }
 
-/// How many rows there are behind the fetch of a cycle.
+/// The number of rows after the fetch of a cycle.
 fn rows_fetched(watch: &StageContents, pc: u64) -> u64
     requires { watch.now.rows < 2 ^ 63 }
     ensures rows { result ≡ spec.rows_fetched watch.now pc }
@@ -106,7 +106,7 @@ fn rows_fetched(watch: &StageContents, pc: u64) -> u64
     }
 }
 
-/// One more row where a register is bubbled.
+/// The number of rows after a register's update: a bubble adds one.
 fn counted(update: RegisterUpdate, rows: u64) -> u64
     requires { rows < 2 ^ 63 + 10 }
     ensures rows { result ≡ rows + spec.bubbles update }
@@ -118,7 +118,7 @@ fn counted(update: RegisterUpdate, rows: u64) -> u64
     }
 }
 
-/// What stands in a register next.
+/// What a register holds next.
 fn moved_stage(
     update: RegisterUpdate,
     held: StageContent,
@@ -134,7 +134,7 @@ fn moved_stage(
     }
 }
 
-/// The fetch that is made again in the next cycle, since F stays and D doesn't load it.
+/// The fetch that is made again in the next cycle, because F stays and D doesn't load it.
 fn kept(movers: &RegisterUpdates, fetch: StageContent) -> StageContent
     ensures { result ≡ spec.kept movers.now fetch }
 {
@@ -147,7 +147,7 @@ fn kept(movers: &RegisterUpdates, fetch: StageContent) -> StageContent
     }
 }
 
-/// What stands in the stages in the next cycle.
+/// What the stages hold in the next cycle.
 #[tactic(auto, unfolding(crate::specs::StageContents::moved_watch))]
 pub(crate) fn moved_watch(
     watch: &StageContents,

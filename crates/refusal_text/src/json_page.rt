@@ -1,4 +1,4 @@
-//! A refusal as JSON: the same facts as its page, with names that are stable.
+//! A refusal as JSON: the same facts as its page, with stable names.
 use crate::mending::{first_to_mend, is_motion};
 use crate::motion::{Motion, motion_faults, motion_of};
 use crate::scene::{Scene, scene_of};

@@ -1,7 +1,7 @@
-//! What is said of a file for PIPE: a refusal in sentences and as JSON, and the settings of an accepted file.
+//! The output for a file for PIPE: a refusal in sentences and as JSON, and the settings of an accepted file.
 //!
-//! The facts are those of `pipe_refusals`: the counterexample, the findings, the repairs, the false obligations. This crate writes them
-//! down. That it writes the right ones is tested, and not proved.
+//! The facts come from `pipe_refusals`: the counterexample, the findings, the repairs, the false obligations. This
+//! crate writes them down. That it writes the right ones is tested, not proved.
 #![tactic(auto)]
 
 mod json_page;

@@ -6,13 +6,13 @@ use pipe_diagnosis::{Refusal, Refutation};
 use std::alloc::{AllocError, Global};
 use y86_base::Variant;
 
-/// Whether an obligation is one of those on motion.
+/// Whether an obligation depends on motion: O10, O11 and O23 to O27.
 pub fn is_motion(rule: u32) -> bool {
     rule == 10 || rule == 11 || rule >= 23
 }
 
-/// The signals that are wrong at a counterexample: those of its findings. Of an obligation on motion the signals that repairs
-/// invert, and `f_pc` where they invert none.
+/// The signals that are wrong at a counterexample: those of its findings and, for O23 to O27, those that repairs
+/// invert. If O23 to O27 have neither, it is `f_pc`.
 pub fn wrong_signals(alloc: Global, refutation: &Refutation) -> Result<Vec<NameId>, AllocError> {
     let mut out: Vec<NameId> = Vec::new(alloc);
     put_wrong(&mut out, refutation.diagnosis.findings.items())?;

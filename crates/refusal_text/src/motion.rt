@@ -14,9 +14,9 @@ pub struct Motion {
     pub lines: Lines,
     pub view: FlowNow,
     pub controls: RegisterControlsNow,
-    /// Whether the fetched instruction is the one that the program does next.
+    /// Whether the fetched instruction is the next one of the program.
     pub is_good: bool,
-    /// Whether the program goes on at the predicted PC.
+    /// Whether the program continues at the predicted PC.
     pub is_on_path: bool,
     /// Whether the youngest instruction of the program stops the machine.
     pub stops: bool,
@@ -83,7 +83,7 @@ struct Sentences {
 }
 
 impl Sentences {
-    /// Adds a sentence where it applies.
+    /// Adds a sentence if it applies.
     fn add_if(&mut self, applies: bool, sentence: &'static str) -> Result<(), AllocError> {
         if applies {
             self.all.push(sentence)?;
@@ -92,7 +92,7 @@ impl Sentences {
     }
 }
 
-/// What is stalled and bubbled at once.
+/// Adds which registers are stalled and bubbled at once.
 fn add_clashes(said: &mut Sentences, k: &RegisterControlsNow) -> Result<(), AllocError> {
     said.add_if(k.f.stall && k.f.bubble, "F is stalled and bubbled at once.")?;
     said.add_if(k.d.stall && k.d.bubble, "D is stalled and bubbled at once.")?;
@@ -101,7 +101,7 @@ fn add_clashes(said: &mut Sentences, k: &RegisterControlsNow) -> Result<(), Allo
     said.add_if(k.w.stall && k.w.bubble, "W is stalled and bubbled at once.")
 }
 
-/// Which instruction of the program is lost or done twice.
+/// Adds which instruction of the program is lost or done twice.
 fn add_losses(
     said: &mut Sentences,
     k: &RegisterControlsNow,
@@ -151,7 +151,7 @@ fn may_be_followed(y: &FlowNow) -> bool {
     }
 }
 
-/// What is wrong with the instructions on the wrong path in the next cycle.
+/// Adds what is wrong with the instructions on the wrong path in the next cycle.
 fn add_wrong_path(said: &mut Sentences, y: &FlowNow) -> Result<(), AllocError> {
     said.add_if(
         y.m.wrong,
@@ -176,7 +176,7 @@ fn add_wrong_path(said: &mut Sentences, y: &FlowNow) -> Result<(), AllocError> {
     )
 }
 
-/// What follows an instruction that nothing may follow, in the next cycle.
+/// Adds what follows, in the next cycle, an instruction that nothing may follow.
 fn add_followers(said: &mut Sentences, y: &FlowNow, je: bool, rm: bool) -> Result<(), AllocError> {
     let after_e = y.d.good;
     let after_m = after_e || y.e.good;
@@ -195,7 +195,7 @@ fn add_followers(said: &mut Sentences, y: &FlowNow, je: bool, rm: bool) -> Resul
     )
 }
 
-/// What is wrong with the fetch, where the program goes on at the predicted PC in the next cycle.
+/// Adds what is wrong with the fetch, if the program continues at the predicted PC in the next cycle.
 fn add_fetch(said: &mut Sentences, m: &Motion) -> Result<(), AllocError> {
     if !path(&m.next) {
         return Ok(());
@@ -216,7 +216,7 @@ fn add_fetch(said: &mut Sentences, m: &Motion) -> Result<(), AllocError> {
     )
 }
 
-/// What waits forever.
+/// Adds what waits forever.
 fn add_waits(said: &mut Sentences, m: &Motion) -> Result<(), AllocError> {
     let y = &m.view;
     let drained = !(y.e.good || y.e.wrong || y.m.good || y.m.wrong || y.w.good || y.w.wrong);
@@ -230,7 +230,7 @@ fn add_waits(said: &mut Sentences, m: &Motion) -> Result<(), AllocError> {
     )
 }
 
-/// What goes wrong with the motion of an obligation's counterexample.
+/// What is wrong with the motion at the counterexample of an obligation.
 pub fn motion_faults(
     alloc: Global,
     scene: &Scene<'_>,
@@ -255,7 +255,7 @@ pub fn motion_faults(
     Ok(said.all)
 }
 
-/// Where the fetch goes, and whether the program goes on there.
+/// Where the fetch goes, and whether the program continues there.
 pub fn fetch_sentence(m: &Motion) -> &'static str {
     if m.stops {
         "The youngest instruction of the program stops the machine, so the fetch is on the wrong path."

@@ -1,4 +1,4 @@
-//! The page of a refusal: everything that is known of it, in sentences.
+//! The page of a refusal: all known facts about it, in sentences.
 use crate::mending::first_to_mend;
 use crate::motion::{Motion, fetch_sentence, motion_faults, motion_of, move_name, stage_flow_name};
 use crate::scene::{Scene, scene_of};
@@ -105,7 +105,7 @@ fn put_change(
     out.push_str(scene.name(id))
 }
 
-/// Writes the changes of which each alone repairs the motion.
+/// Writes the changes that repair the motion alone.
 fn put_single_repairs(
     out: &mut String,
     scene: &Scene<'_>,
@@ -127,7 +127,7 @@ fn put_single_repairs(
     Ok(())
 }
 
-/// Writes the changes of which two together repair the motion.
+/// Writes the pairs of changes that repair the motion together.
 fn put_double_repairs(
     out: &mut String,
     scene: &Scene<'_>,
@@ -187,7 +187,7 @@ fn put_other_repairs(
     out.push_str(" would repair it")
 }
 
-/// Writes in a line what is wrong at the counterexample of another obligation.
+/// Writes, on one line, what is wrong at the counterexample of another obligation.
 fn put_other(
     alloc: Global,
     page: &mut String,
@@ -230,7 +230,7 @@ fn put_others<'a>(
     )
 }
 
-/// Whether stalls and bubbles are to blame: of an obligation on motion, and where no value is right.
+/// Whether stalls and bubbles are to blame: for O23 to O27, and if no value of some signal would be right.
 fn moves_wrongly(rule: u32, refutation: &Refutation) -> bool {
     let mut waits = rule >= 23;
     for finding in refutation.diagnosis.findings.items() {

@@ -25,14 +25,14 @@ fn put_jumps(out: &mut String, taken: &[bool]) -> Result<(), AllocError> {
     Ok(())
 }
 
-/// What a setting says, where it is on and where it is off.
+/// Writes a setting: the first text if it is on, the second if it is off.
 fn put_choice(out: &mut String, is_on: bool, on: &str, off: &str) -> Result<(), AllocError> {
     out.push_str("    ")?;
     out.push_str(if is_on { on } else { off })?;
     out.push_str("\n")
 }
 
-/// Writes a yes: the settings of the file, a line each.
+/// Writes the output for an accepted file: its settings, a line each.
 pub fn put_settings(out: &mut String, s: &Settings) -> Result<(), AllocError> {
     out.push_str(
         "yes: all 27 obligations hold.\n\nThis pipeline does what the instructions mean, for every program in which no instruction overwrites\none of the next three. Its settings:\n\n    Forward jumps that it predicts as taken: ",

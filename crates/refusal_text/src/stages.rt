@@ -12,7 +12,7 @@ pub fn kind_name(kind: u64) -> &'static str {
     }
 }
 
-/// Writes a register that is named, behind what it is for.
+/// Writes the name of a register after its purpose, unless it is RNONE.
 fn put_register(out: &mut String, what: &str, n: u64) -> Result<(), AllocError> {
     match register(n) {
         Some(name) => write!(out, ", {what} {name}"),
@@ -31,7 +31,7 @@ fn put_status(out: &mut String, stat: u64) -> Result<(), AllocError> {
     }
 }
 
-/// Writes a remark where it applies.
+/// Writes a remark if it applies.
 fn put_if(out: &mut String, applies: bool, remark: &str) -> Result<(), AllocError> {
     if applies {
         out.push_str(remark)

@@ -1,4 +1,4 @@
--- Where the theorem covers a run, nothing differs.
+-- If the theorem covers a run, nothing differs.
 use Rattle.std.proofs.Common.{◌≡◌, ℕ, true, List}
 use Rattle.cosimulation.proofs.Agree.{finds_none}
 use Rattle.cosimulation.specs.Agreement.{FindsNone}

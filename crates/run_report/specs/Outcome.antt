@@ -1,4 +1,5 @@
--- What the run of a program under an HCL file came to, beside its run by instructions, and whether the theorem on accepted files says so beforehand.
+-- The outcome of a program's run under an HCL file, compared with its run by instructions, and whether the theorem on
+-- accepted files predicts it.
 use Rattle.std.specs.Prelude.{◌≡◌, ℕ, Bool, true, false, List}
 use Rattle.control_check.specs.PipeVerdicts.{AcceptsPipe, IsPipeFault, RefinesPipe, RejectsPipe}
 use Rattle.cosimulation.specs.Lockstep.{IsCompared}
@@ -18,8 +19,8 @@ use Rattle.run_report.specs.declared.outcome.Judged.{Judged}
 use Rattle.run_report.specs.declared.outcome.Judged.TheVariants.{Yes, No, Unknown, Unasked}
 use Rattle.run_report.specs.declared.outcome.Outcome.{Outcome}
 
--- the check's answer on a design: accepted, and then its pipeline does what the instructions mean; the first obligation that is false
--- somewhere; or no control values. It may not have been asked.
+-- the check's answer on a design: accepted, and then its pipeline does what the instructions mean; the first obligation
+-- that is false somewhere; or no control values. The check may also not have been asked.
 abbrev pub IsJudged : Variant → List Term → Judged → Type 0
 IsJudged v terms Yes = (s : Settings) × AcceptsPipe v terms s × RefinesPipe v terms
 IsJudged v terms (No rule) = (w : List Bool) × RejectsPipe v terms rule w
@@ -33,22 +34,22 @@ right_count (Open steps) = steps
 right_count (Record d) = d.before
 right_count (State steps cycles part) = steps
 
--- both runs ended, after the same records and in the same state
+-- both runs ended, with the same records and in the same state
 abbrev pub is_same : Compared → Bool
 is_same (Same steps cycles) = true
 is_same (Open steps) = false
 is_same (Record d) = false
 is_same (State steps cycles part) = false
 
--- What the run of an image came to: the first record or final state that differs, the machine of the instructions before it, what is known
--- of the program, and the check's answer on the file.
+-- The outcome of the run of an image: the first record or final state that differs, the machine of the instructions
+-- before it, what is known of the program, and the check's answer on the file.
 pub record IsOutcome (v : Variant) (terms : List Term) (order image : List ℕ) (limit : ℕ) (o : Outcome) : Type 0 where
   pub compared : IsCompared v (started v terms order image) (start image) limit o.compared
   pub machine : o.machine ≡ run v image (right_count o.compared)
   pub watched : IsWatched v image limit o.watched
   pub judged : IsJudged v terms o.judged
 
--- the program stops, and fetches nothing that one of the three instructions before had stored
+-- the program stops, and no instruction fetches a byte that one of the three instructions before it stored
 abbrev pub is_apart : Watched → Bool
 is_apart (Apart steps stopped) = stopped
 is_apart (Meets f) = false

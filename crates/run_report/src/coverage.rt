@@ -14,7 +14,7 @@ fn put_name(out: &mut Vec<u8>, rows: &[Row], id: NameId) -> Result<(), Memory> {
     }
 }
 
-/// Writes the check's answer.
+/// Writes the answer of the check.
 fn put_judged(
     out: &mut Vec<u8>,
     variant: Variant,
@@ -47,7 +47,7 @@ fn put_judged(
     }
 }
 
-/// How many steps a distance is, in words.
+/// A distance in steps, in words.
 fn distance_word(distance: u64) -> &'static [u8] {
     match distance {
         1 => b"one step",
@@ -85,7 +85,7 @@ fn put_premise(out: &mut Vec<u8>, watched: Watched) -> Result<(), Memory> {
     }
 }
 
-/// Writes what follows of whether the theorem covers a run.
+/// Writes the conclusion: whether the theorem covers the run.
 fn put_conclusion(out: &mut Vec<u8>, judged: Judged, watched: Watched) -> Result<(), Memory> {
     if is_covered(judged, watched) {
         return put(
@@ -106,8 +106,8 @@ fn put_conclusion(out: &mut Vec<u8>, judged: Judged, watched: Watched) -> Result
     }
 }
 
-/// Writes whether the theorem covers a run, and why, behind an empty line. Where the check wasn't asked, only a program that the theorem
-/// doesn't cover is told.
+/// Writes whether the theorem covers a run, and why, after an empty line. If the check wasn't asked, it only reports a
+/// program that the theorem doesn't cover.
 pub fn put_coverage(
     out: &mut Vec<u8>,
     variant: Variant,

@@ -1,4 +1,4 @@
-//! The outcome of a run as JSON: the same facts as its page, with names that are stable.
+//! The outcome of a run as JSON: the same facts as its page, with stable names.
 use crate::outcome::{Judged, Outcome, is_covered};
 use crate::written::{Line, lines_of, lines_of_part, put_text, same_instruction};
 use cosimulation::{Compared, Part, RecordDiffers};
@@ -56,7 +56,7 @@ fn put_word(alloc: Global, out: &mut Out, name: &str, word: u64) -> Result<(), A
     put_bytes(out, name, text.as_slice())
 }
 
-/// Writes a register with the word that it gets.
+/// Writes a register with its new word.
 fn put_register(
     alloc: Global,
     out: &mut Out,
@@ -74,7 +74,7 @@ fn put_register(
     out.end_object()
 }
 
-/// Writes a word of memory that is stored.
+/// Writes the word of memory that is stored, or null.
 fn put_stored(alloc: Global, out: &mut Out, store: Option<Store>) -> Result<(), AllocError> {
     let Some(it) = store else {
         return put_null(out, "memory");
@@ -122,7 +122,7 @@ fn put_instruction(
     out.end_object()
 }
 
-/// Writes the names of what is wrong.
+/// Writes the names of the wrong parts.
 fn put_wrong(out: &mut Out, is_same: bool, lines: &[Line]) -> Result<(), AllocError> {
     out.key("wrong")?;
     out.begin_array()?;
@@ -170,14 +170,14 @@ fn put_part(alloc: Global, out: &mut Out, part: Part) -> Result<(), AllocError> 
     Ok(())
 }
 
-/// Writes which outcome it is, the instructions that are right, and the cycles.
+/// Writes the outcome, the number of right instructions, and the cycles.
 fn put_head(out: &mut Out, outcome: &[u8], steps: u64, cycles: u64) -> Result<(), AllocError> {
     put_bytes(out, "outcome", outcome)?;
     put_number(out, "instructions", steps)?;
     put_number(out, "cycles", cycles)
 }
 
-/// Writes what the comparison came to.
+/// Writes the result of the comparison.
 fn put_compared(
     alloc: Global,
     out: &mut Out,

@@ -1,5 +1,6 @@
-//! A program's run on PIPE beside its run by instructions: the first instruction that differs, and whether the theorem on accepted files says
-//! beforehand that none does. The facts are proved; their sentences and their JSON are tested.
+//! Compares a program's run on PIPE with its run by instructions: the first instruction that differs, and whether the
+//! theorem on accepted files excludes any difference beforehand. The facts are proved; their sentences and their JSON
+//! are tested.
 #![tactic(auto)]
 
 mod coverage;

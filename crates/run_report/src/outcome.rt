@@ -1,4 +1,4 @@
-//! What a run came to.
+//! The outcome of a run.
 ghost use Rattle.std.specs.Prelude.{◌≡◌, ◌≢◌, ◌↔◌, ◌⊎◌, ◌<◌, ◌≤◌, ◌^◌, IfErr, IfOk, Err, List, Ok, true, ℕ};
 ghost use Rattle.cosimulation.specs.Agreement.{FindsNone};
 ghost use Rattle.dp_signals.specs.PipeTable.{pipe_rows};
@@ -27,28 +27,28 @@ pub enum Judged {
     Yes,
     /// The number of the first obligation that is false somewhere.
     No(u32),
-    /// It has none, for this reason.
+    /// There is no answer, for this reason.
     Unknown(CtlFault),
     /// It wasn't asked.
     Unasked,
 }
 
-/// A run under a design for PIPE and by the instructions, as it is asked for.
+/// The parameters of a run under a design for PIPE and by the instructions.
 #[derive(Debug, Drop)]
 pub struct OutcomeRequest {
     /// The instruction set.
     pub variant: Variant,
-    /// The design that PIPE has.
+    /// The design of PIPE.
     pub design: Design,
     /// An order in which its signals can be computed.
     pub order: Order,
     /// The most cycles.
     pub limit: u64,
-    /// Whether the check is asked too.
+    /// Whether the check is run too.
     pub checked: bool,
 }
 
-/// What a run came to.
+/// The outcome of a run.
 #[derive(Debug, Drop)]
 pub struct Outcome {
     /// The first record or final state that differs.
@@ -76,7 +76,7 @@ fn judge(alloc: Global, v: Variant, design: &Design, order: &Order) -> Result<Ju
     }
 }
 
-/// The check's answer on a design, if it is asked.
+/// The check's answer on a design, if it is asked for.
 fn judge_if(
     alloc: Global,
     asks: bool,
@@ -108,7 +108,7 @@ fn right_count(compared: &Compared) -> u64
     }
 }
 
-/// The machine of the instructions after some of them.
+/// The machine of the instructions after this number of steps.
 fn machine_after(v: Variant, image: Image, steps: u64) -> Machine
     ensures { result ≡ run v image steps }
 {
@@ -117,8 +117,8 @@ fn machine_after(v: Variant, image: Image, steps: u64) -> Machine
     machine
 }
 
-/// Runs an image by its instructions and on PIPE under a design, side by side, and asks the check too or not. Where the theorem covers the
-/// run, nothing differs.
+/// Runs an image by its instructions and on PIPE under a design, side by side, and also runs the check if it is asked
+/// for. If the theorem covers the run, nothing differs.
 pub fn run_outcome(alloc: Global, request: OutcomeRequest, image: Image) -> Result<Outcome, Memory>
     requires limit { request.limit < 2 ^ 63 }
     requires bound { IsBound pipe_rows request.design.terms }
@@ -193,7 +193,7 @@ pub fn is_covered(judged: Judged, watched: Watched) -> bool
     }
 }
 
-/// The status of a call: 0 where both runs ended and nothing differs, else 1.
+/// The exit status of a call: 0 if both runs ended and nothing differs, otherwise 1.
 pub fn outcome_status(compared: &Compared) -> u8
     ensures same { (result ≡ 0) ↔ (spec.is_same compared.now ≡ true) }
     ensures low { result ≤ 1 }

@@ -10,12 +10,12 @@ use std::alloc::Global;
 use y86_base::{Memory, Stat, Variant, put};
 use y86_isa::{Machine, Rec};
 
-/// The columns of the names, and of what the pipeline has.
+/// The widths of the columns: the names, and what the pipeline has.
 const NAME_WIDTH: usize = 8;
 
 const IS_WIDTH: usize = 28;
 
-/// Writes a text, and blanks up to some columns.
+/// Writes a text, filled with blanks to a width.
 fn put_column(out: &mut Vec<u8>, text: &[u8], width: usize) -> Result<(), Memory> {
     put(out, text)?;
     for _ in text.len()..width {
@@ -24,7 +24,7 @@ fn put_column(out: &mut Vec<u8>, text: &[u8], width: usize) -> Result<(), Memory
     Ok(())
 }
 
-/// Writes lines as a table, below its head.
+/// Writes lines as a table, under its heading.
 fn put_table(out: &mut Vec<u8>, is: &[u8], wanted: &[u8], lines: &[Line]) -> Result<(), Memory> {
     put(out, b"\n    ")?;
     put_column(out, b"", 7)?;
@@ -49,7 +49,7 @@ fn put_table(out: &mut Vec<u8>, is: &[u8], wanted: &[u8], lines: &[Line]) -> Res
     Ok(())
 }
 
-/// Writes how many instructions there are.
+/// Writes a number of instructions.
 fn put_count(out: &mut Vec<u8>, count: u64) -> Result<(), Memory> {
     put_number_pair(out, b"", count)?;
     put(
@@ -88,7 +88,7 @@ fn put_both(
     put(out, b"\n")
 }
 
-/// Writes an instruction that retires where the program has stopped.
+/// Writes an instruction that retires after the program has stopped.
 fn put_behind_the_end(
     out: &mut Vec<u8>,
     machine: &Machine,

@@ -8,12 +8,12 @@ use yis_run::flag;
 
 const NO_REGISTER: u64 = 15;
 
-/// Whether two records are of one instruction.
+/// Whether two records are those of one instruction.
 pub fn same_instruction(one: &Rec, other: &Rec) -> bool {
     one.pc == other.pc && one.icode == other.icode && one.ifun == other.ifun
 }
 
-/// Writes an instruction, from the bytes in memory where they are its own.
+/// Writes an instruction, as the bytes in memory if they are its own.
 pub fn put_text(out: &mut Vec<u8>, memory: &Image, r: &Rec) -> Result<(), Memory> {
     if r.stat == Stat::Ins {
         return put(out, b"an invalid instruction");
@@ -59,7 +59,7 @@ fn put_flags(out: &mut Vec<u8>, flags: Flags) -> Result<(), Memory> {
     put(out, flag(flags.of))
 }
 
-/// Writes a register with the word that it gets, and a dash for none.
+/// Writes a register with its new word, or a dash.
 fn put_register(out: &mut Vec<u8>, number: u64, word: u64) -> Result<(), Memory> {
     if number >= NO_REGISTER {
         return put(out, b"-");
@@ -68,7 +68,7 @@ fn put_register(out: &mut Vec<u8>, number: u64, word: u64) -> Result<(), Memory>
     put_word_pair(out, b" = ", word)
 }
 
-/// Writes a word of memory that is stored, and a dash for none.
+/// Writes the word of memory that is stored, or a dash.
 fn put_stored(out: &mut Vec<u8>, store: Option<Store>) -> Result<(), Memory> {
     match store {
         None => put(out, b"-"),
@@ -79,7 +79,8 @@ fn put_stored(out: &mut Vec<u8>, store: Option<Store>) -> Result<(), Memory> {
     }
 }
 
-/// What can differ, with its name, what the pipeline has and what the instructions have there. What neither has is empty.
+/// A thing that can differ: its name, what the pipeline has, and what the instructions have. A dash is what one of them
+/// lacks.
 #[derive(Drop)]
 pub struct Line {
     pub name: Vec<u8>,
@@ -88,7 +89,7 @@ pub struct Line {
     pub is_right: bool,
 }
 
-/// A line without texts.
+/// A line with a name and no texts yet.
 fn line_named(alloc: Global, name: &[u8], is_right: bool) -> Result<Line, Memory> {
     let mut named = Vec::new(alloc);
     put(&mut named, name)?;
@@ -108,7 +109,7 @@ fn add(lines: &mut Vec<Line>, line: Line) -> Result<(), Memory> {
     }
 }
 
-/// Adds the line of a register that one of two instructions writes.
+/// Adds the line of a register that at least one of two instructions writes.
 fn add_register(
     alloc: Global,
     lines: &mut Vec<Line>,
@@ -125,7 +126,7 @@ fn add_register(
     add(lines, line)
 }
 
-/// Adds the line of a store that one of two instructions does.
+/// Adds the line of a store that at least one of two instructions does.
 fn add_store(
     alloc: Global,
     lines: &mut Vec<Line>,

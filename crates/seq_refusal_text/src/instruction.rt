@@ -1,9 +1,9 @@
-//! The counterexample of SEQ or SEQ+: the instruction, and of SEQ+ what is held of the one before.
+//! The counterexample of SEQ or SEQ+: the instruction, and for SEQ+ what is stored of the instruction before.
 use finding_text::{instruction, mnemonic, register};
 use seq_requirements::{LineNow, PreviousNow};
 use std::alloc::AllocError;
 
-/// Writes a register that is named, behind what it is for.
+/// Writes the name of a register after its purpose, unless it is RNONE.
 fn put_register(out: &mut String, what: &str, n: u64) -> Result<(), AllocError> {
     match register(n) {
         Some(name) => write!(out, ", {what} {name}"),
@@ -11,7 +11,7 @@ fn put_register(out: &mut String, what: &str, n: u64) -> Result<(), AllocError> 
     }
 }
 
-/// Writes whether a condition holds, where there is one.
+/// Writes whether the condition holds, if there is one.
 fn put_condition(out: &mut String, is_asked: bool, cnd: u64) -> Result<(), AllocError> {
     if !is_asked {
         return Ok(());
@@ -42,7 +42,7 @@ fn put_line(out: &mut String, line: &LineNow) -> Result<(), AllocError> {
     Ok(())
 }
 
-/// Writes the instruction, and of SEQ+ the one before.
+/// Writes the instruction, and for SEQ+ the one before.
 pub fn put_instructions(
     out: &mut String,
     previous: Option<PreviousNow>,

@@ -1,4 +1,4 @@
-//! A refusal as JSON: the same facts as its page, with the names that the JSON of PIPE has.
+//! A refusal as JSON: the same facts as its page, with the names that PIPE's JSON has.
 use crate::scene::{first_to_mend, obligation_of, values_of};
 use finding_text::{
     CasePlace, ExplainedFile, Out, Values, put_comparison_facts, put_finding_facts, put_mend_first,

@@ -1,7 +1,7 @@
-//! The verdict on a file for SEQ or SEQ+ in sentences, and as JSON: of a refusal everything that is known of it.
+//! The verdict on a file for SEQ or SEQ+, in sentences and as JSON, with all known facts about a refusal.
 //!
-//! The facts are those of `seq_refusals`: the counterexample, the findings, the false obligations. This crate writes them down. That it
-//! writes the right ones is tested, and not proved.
+//! The facts come from `seq_refusals`: the counterexample, the findings, the false obligations. This crate writes them
+//! down. That it writes the right ones is tested, not proved.
 #![tactic(auto)]
 
 mod instruction;

@@ -1,4 +1,4 @@
-//! The page of a refusal.
+//! The page of a refusal, in sentences.
 use crate::instruction::put_instructions;
 use crate::scene::{before, first_to_mend, obligation_of, values_of};
 use finding_text::{
@@ -9,7 +9,7 @@ use seq_diagnosis::{Refusal, Refutation};
 use seq_requirements::{Datapath, line_of};
 use std::alloc::{AllocError, Global};
 
-/// Writes in a line what is wrong at the counterexample of another obligation.
+/// Writes, on one line, what is wrong at the counterexample of another obligation.
 fn put_other(
     alloc: Global,
     page: &mut String,

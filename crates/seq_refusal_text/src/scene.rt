@@ -48,7 +48,7 @@ pub fn values_of<'a>(
     }
 }
 
-/// What is held of the instruction before: in SEQ+ alone.
+/// What is stored of the instruction before: only SEQ+ has it.
 pub fn before(which: Datapath, bits: &[bool]) -> Option<PreviousNow> {
     match which {
         Datapath::Seq => None,
@@ -63,7 +63,7 @@ fn wrong_signals(alloc: Global, refutation: &Refutation) -> Result<Vec<NameId>, 
     Ok(out)
 }
 
-/// The obligation to mend first: the first whose wrong signals depend on no other one's.
+/// The obligation to mend first: the first whose wrong signals depend on no other's.
 pub fn first_to_mend(
     alloc: Global,
     values: &Values<'_>,

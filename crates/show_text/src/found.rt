@@ -1,4 +1,4 @@
-//! What has a name: obligations, instructions, signals and kinds of faults.
+//! Finds what has a name: obligations, instructions, signals and kinds of faults.
 ghost use Rattle.std.specs.Prelude.{◌≡◌, [], None, true, IfSome};
 ghost use Rattle.std.specs.Str.{bytes_eq};
 
@@ -10,7 +10,7 @@ use explanations::{
 use finding_text::instruction;
 use std::alloc::{AllocError, Global};
 
-/// An obligation and the datapath that it is of.
+/// An obligation and its datapath.
 #[derive(Clone, Copy, Debug)]
 pub struct Demanded {
     pub path: Path,
@@ -24,7 +24,7 @@ pub struct Kind {
     pub kind: &'static FaultKind,
 }
 
-/// All that has a name.
+/// Everything that has a name.
 #[derive(Drop)]
 pub struct ShowMatches {
     pub obligations: Vec<Demanded>,
@@ -48,7 +48,7 @@ impl ShowMatches {
     }
 }
 
-/// Whether a name is asked for; every name is, where none is given.
+/// Whether a name is asked for. Without a word every name is.
 fn is_asked(word: Option<&str>, name: &str) -> bool
     ensures all { word.entry ≡ None → result ≡ true }
     ensures one { IfSome word.entry (λ word. result ≡ bytes_eq word.now name.now) }
@@ -59,7 +59,7 @@ fn is_asked(word: Option<&str>, name: &str) -> bool
     }
 }
 
-/// Adds the obligations of a datapath from a number on.
+/// Adds the obligations of a datapath from a number on, if they are asked for.
 fn put_obligations(
     out: &mut Vec<Demanded>,
     word: Option<&str>,
@@ -76,7 +76,7 @@ fn put_obligations(
     Ok(())
 }
 
-/// Adds the signals.
+/// Adds the signals that are asked for.
 fn put_signals(out: &mut Vec<Staged>, word: Option<&str>) -> Result<(), AllocError> {
     for number in 0..GROUP_COUNT {
         let (stage, signals) = signal_group(number);
@@ -89,7 +89,7 @@ fn put_signals(out: &mut Vec<Staged>, word: Option<&str>) -> Result<(), AllocErr
     Ok(())
 }
 
-/// Adds the kinds of faults.
+/// Adds the kinds of faults that are asked for.
 fn put_faults(out: &mut Vec<Kind>, word: Option<&str>) -> Result<(), AllocError> {
     for language in 0..3_usize {
         for kind in fault_kinds(language) {
@@ -101,7 +101,8 @@ fn put_faults(out: &mut Vec<Kind>, word: Option<&str>) -> Result<(), AllocError>
     Ok(())
 }
 
-/// What has this name; everything, where no name is given. An instruction has its own name and that of its group: `jle`, `jXX`.
+/// Everything with this name; without a name everything. An instruction has its own name and that of its group: `jle`,
+/// `jXX`.
 pub fn found_of(alloc: Global, word: Option<&str>) -> Result<ShowMatches, AllocError> {
     let mut obligations: Vec<Demanded> = Vec::new(alloc);
     put_obligations(&mut obligations, word, Path::Seq, 0)?;

@@ -11,7 +11,7 @@ pub struct Instruction {
     pub usage: &'static str,
     pub icode: u64,
     pub ifun: u64,
-    /// Whether it is one with `--full` alone.
+    /// Whether it exists only with `--full`.
     pub is_full: bool,
     pub row: Row,
 }

@@ -1,4 +1,4 @@
-//! What has a name as JSON, with names that are stable.
+//! The answer of `show` as JSON, with stable names.
 use crate::found::{Demanded, Kind, ShowMatches, group_of};
 use crate::instructions::Instruction;
 use crate::pages::{LANGUAGES, sentences};
@@ -96,7 +96,7 @@ fn put_alu(out: &mut Out, it: &Instruction) -> Result<(), AllocError> {
     put_truth(out, "sets_flags", it.row.sets_flags)
 }
 
-/// Writes what an instruction does at memory, and where the next one is.
+/// Writes what an instruction does at memory, and where the next instruction is.
 fn put_memory(out: &mut Out, it: &Instruction) -> Result<(), AllocError> {
     let (reads, writes, address, data) = match it.row.memory {
         MemoryColumn::NoMem => (false, false, None, None),

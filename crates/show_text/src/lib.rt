@@ -1,7 +1,8 @@
-//! What `y86-tell show` says of an obligation, an instruction, a signal or a kind of fault, in sentences and as JSON.
+//! What `y86-tell show` prints for an obligation, an instruction, a signal or a kind of fault, in sentences and as
+//! JSON.
 //!
-//! The sentences are those of `explanations`. What each stage does for an instruction comes from its row of the instruction table.
-//! That the right facts are written is tested, and not proved.
+//! The sentences come from `explanations`. What each stage does for an instruction comes from its row of the
+//! instruction table. That the right facts are written is tested, not proved.
 #![tactic(auto)]
 
 mod found;

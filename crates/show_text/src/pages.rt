@@ -1,4 +1,4 @@
-//! What has a name, in sentences.
+//! The answer of `show`, in sentences.
 use crate::found::{Demanded, Kind, ShowMatches};
 use crate::instructions::Instruction;
 use crate::stages::{STAGES, put_layout, steps_of};
@@ -8,7 +8,7 @@ use finding_text::{put_lines, put_paragraph};
 use std::alloc::{AllocError, Global};
 use y86_base::Memory;
 
-/// The languages that faults are of.
+/// The languages that have faults.
 pub static LANGUAGES: [&str; 3] = ["HCL", "assembly", "object text"];
 
 /// The name of a datapath.
@@ -20,7 +20,7 @@ fn path_name(path: Path) -> &'static str {
     }
 }
 
-/// Writes an obligation. S16 is one of SEQ, and another of SEQ+.
+/// Writes an obligation. SEQ and SEQ+ each have an S16 of their own.
 fn put_obligation(alloc: Global, out: &mut String, it: &Demanded) -> Result<(), AllocError> {
     let o = it.obligation;
     let mut said = String::from_str(alloc, o.label)?;
@@ -97,7 +97,7 @@ fn put_instruction(alloc: Global, out: &mut String, it: &Instruction) -> Result<
     Ok(())
 }
 
-/// Writes a text, each line behind four blanks.
+/// Writes a text, each line after four blanks.
 fn put_block(out: &mut String, text: &str) -> Result<(), AllocError> {
     out.push_str("\n")?;
     for line in text.split('\n') {
@@ -108,7 +108,7 @@ fn put_block(out: &mut String, text: &str) -> Result<(), AllocError> {
     Ok(())
 }
 
-/// Writes a sentence with `<found>` and the like for what is filled in.
+/// Writes a sentence with `<found>` and the like in the places that are filled in.
 fn put_sentence(
     alloc: Global,
     out: &mut String,
@@ -143,7 +143,7 @@ pub fn sentences(alloc: Global, code: &str) -> Result<Vec<&'static [u8]>, AllocE
     Ok(once)
 }
 
-/// Writes a kind of fault: what is wrong, an example, its mend, and what `fault` says.
+/// Writes a kind of fault: what is wrong, an example, its correction, and the sentences that `fault` prints.
 fn put_fault(alloc: Global, out: &mut String, it: &Kind) -> Result<(), AllocError> {
     let kind = it.kind;
     let mut first = String::from_str(alloc, kind.code)?;
@@ -172,7 +172,7 @@ fn put_gap(out: &mut String, is_first: bool) -> Result<(), AllocError> {
     if is_first { Ok(()) } else { out.push_str("\n") }
 }
 
-/// Writes all that was found.
+/// Writes everything that was found.
 pub fn put_found(alloc: Global, out: &mut String, found: &ShowMatches) -> Result<(), AllocError> {
     let mut is_first = true;
     for it in found.obligations.as_slice() {
@@ -206,7 +206,7 @@ fn put_name(out: &mut String, name: &str) -> Result<(), AllocError> {
     out.push_str(name)
 }
 
-/// Writes a row of names behind what they are.
+/// Writes a heading and a row of names.
 fn put_row(
     alloc: Global,
     out: &mut String,
@@ -216,7 +216,7 @@ fn put_row(
     put_paragraph(alloc, out, heading, "                ", names.as_str())
 }
 
-/// Writes the names of all that can be shown.
+/// Writes the names of everything that can be shown.
 pub fn put_names(alloc: Global, out: &mut String, all: &ShowMatches) -> Result<(), AllocError> {
     out.push_str("y86-tell show WORD explains\n\n")?;
     let mut names = String::new(alloc);

@@ -152,7 +152,7 @@ fn update_pc(alloc: Global, out: &mut Vec<String>, row: &Row) -> Result<(), Allo
     )
 }
 
-/// What a stage does for an instruction, a step each. The stages are numbered from 0.
+/// The steps of a stage for an instruction. Stages are numbered from 0.
 pub fn steps_of(
     alloc: Global,
     instruction: &Instruction,

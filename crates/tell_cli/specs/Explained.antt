@@ -1,4 +1,4 @@
--- What is explained of an HCL text: its design, the verdict, and the diagnosis of a refusal.
+-- What `check` explains of an HCL text: its design, the verdict, and the diagnosis of a refusal.
 use Rattle.std.specs.Prelude.{ℕ, ◌≡◌, List, Ok, true}
 use Rattle.y86_base.specs.declared.parts.Variant.{Variant}
 use Rattle.hcl_read.specs.Read.{ReadsAs}
@@ -16,7 +16,7 @@ use Rattle.seq_refusals.specs.Answered as seq
 use Rattle.seq_refusals.specs.declared.answer.SeqAnswer as seq_answer
 use Rattle.tell_cli.specs.declared.designs.Ordered.{Ordered}
 
--- the text is a file with this design over a table
+-- the text is a file that has this design over a table
 pub record HasDesignOver (rows : List Row) (text : List ℕ) (terms : List Term) : Type 0 where
   pub file : File
   pub reads : ReadsAs text file
@@ -35,12 +35,13 @@ HasDesign text terms = HasDesignOver pipe_rows text terms
 abbrev pub IsOrdered : Ordered → Type 0
 IsOrdered ordered = IsOrderedOver pipe_rows ordered
 
--- the answer on a design for PIPE: the verdict is right, its diagnosis too, and a file with a yes refines the run of instructions
+-- the answer on a design for PIPE: the verdict and its diagnosis are right, and an accepted file refines the run of
+-- instructions
 pub record Answers (v : Variant) (terms : List Term) (answer : PipeAnswer) : Type 0 where
   pub is : IsAnswer v terms answer
   pub refines : is_yes answer ≡ true → RefinesPipe v terms
 
--- the same of a design for SEQ or SEQ+
+-- the same for a design for SEQ or SEQ+
 pub record SeqAnswers (which : Datapath) (v : Variant) (terms : List Term) (answer : seq_answer.SeqAnswer) : Type 0 where
   pub is : seq.IsAnswer which v terms answer
   pub refines : seq.is_yes answer ≡ true → seq.Refines which v terms

@@ -10,7 +10,8 @@ use Rattle.y86_base.specs.declared.parts.Variant.{Variant}
 use Rattle.yo_object.specs.ObjectText.{object_of}
 use Rattle.tell_cli.specs.Explained.{HasDesign}
 
--- The outcome is that of the image of an object text under the design of an HCL text. Where the theorem covers the run, nothing differs.
+-- The outcome is that of the image of an object text under the design of an HCL text. If the theorem covers the run,
+-- nothing differs.
 pub record IsRun (v : Variant) (source object : List ℕ) (size limit : ℕ) (o : Outcome) : Type 0 where
   pub terms : List Term
   pub order : List ℕ

@@ -1,4 +1,4 @@
-//! What a call asks for, its answer, and its status.
+//! Answers a call: what it prints, and its exit status.
 ghost use Rattle.std.specs.Prelude.{◌≡◌};
 ghost use Rattle.tell_cli.specs.Stops.{status_of};
 
@@ -15,13 +15,13 @@ use seq_requirements::Datapath;
 use std::alloc::Global;
 use wb_io::{Files, Sink, put_all};
 
-/// What is said of a memory whose size is no multiple of 8.
+/// The message for a memory whose size is no multiple of 8.
 const ODD_SIZE: &str = "the bytes of memory have to be a multiple of 8\n";
 
-/// What is said of a limit that is out of range.
+/// The message for a limit that is out of range.
 const ODD_LIMIT: &str = "the limit has to be from 1 to 100000000\n";
 
-/// Writes what was said, and gives the status.
+/// Writes the output, and returns the status.
 fn say<O: Sink>(said: Said, out: &mut O) -> Result<u8, Stop> {
     match put_all(out, said.text.as_slice()) {
         Ok(()) => Ok(said.status),
@@ -29,7 +29,7 @@ fn say<O: Sink>(said: Said, out: &mut O) -> Result<u8, Stop> {
     }
 }
 
-/// Does what a call asks for, and gives the status.
+/// Does what a call asks for, and returns the status.
 fn answer<F: Files, O: Sink>(
     alloc: Global,
     call: Call<'_>,
@@ -88,7 +88,7 @@ fn answer<F: Files, O: Sink>(
     }
 }
 
-/// Writes a stop on standard error, and gives its status.
+/// Writes a stop on standard error, and returns its status.
 fn tell_stop<E: Sink>(stop: &Stop, err: &mut E) -> u8
     ensures { result ≡ status_of stop.now }
 {
@@ -106,7 +106,7 @@ fn tell_stop<E: Sink>(stop: &Stop, err: &mut E) -> u8
     stop.status()
 }
 
-/// Does what a call asks for, and gives the status that the program ends with.
+/// Does what a call asks for, and returns the exit status of the program.
 pub fn respond<F: Files, O: Sink, E: Sink>(
     alloc: Global,
     call: Call<'_>,

@@ -17,7 +17,7 @@ pub enum Call<'a> {
         variant: Variant,
         json: bool,
     },
-    /// Say whether the theorem covers the program of an object file.
+    /// Report whether the theorem covers the program of an object file.
     Program {
         obj: &'a str,
         asked: ProgramQuestion,
@@ -201,12 +201,12 @@ fn asked_path(name: Option<&str>) -> Option<Path> {
     }
 }
 
-/// The instruction set, by the option `--full`.
+/// The instruction set, by whether `--full` is given.
 fn variant_of(full: bool) -> Variant {
     if full { Variant::Full } else { Variant::Base }
 }
 
-/// Reads the arguments, the program's own name first. `None` where they name no command.
+/// Reads the arguments, the program's own name first. `None` if they name no command.
 pub fn call_of<'a>(alloc: Global, words: &'a [String]) -> Result<Option<Call<'a>>, Error> {
     let matches = command(alloc)?.try_get_matches_from(words)?;
     let Some((name, own)) = matches.subcommand() else {

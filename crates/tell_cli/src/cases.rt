@@ -1,4 +1,4 @@
-//! Where an HCL text has the cases of its definitions.
+//! Finds the cases of definitions in an HCL text.
 use finding_text::CasePlace;
 use hcl_faults::{TokenAt, TokenKind, place_at, token_list};
 use std::alloc::{AllocError, Global};
@@ -15,7 +15,7 @@ struct Walk<'a> {
     found: Vec<CasePlace<'a>>,
 }
 
-/// Some bytes of a text.
+/// The part of a text between two places; empty if there is none, or if it isn't UTF-8.
 fn text_between<'a>(source: &'a [u8], from: usize, to: usize) -> &'a str {
     match source.get(from..to) {
         Some(bytes) => std::str::from_utf8(bytes).unwrap_or(""),
@@ -43,7 +43,7 @@ impl<'a> Walk<'a> {
         Ok(())
     }
 
-    /// Goes over a token.
+    /// Passes a token.
     fn pass(&mut self, before: TokenKind, token: TokenAt) -> Result<(), AllocError> {
         if before == TokenKind::Definition {
             self.signal = text_between(self.source, token.from, token.to);
@@ -75,7 +75,7 @@ impl<'a> Walk<'a> {
     }
 }
 
-/// The cases of the definitions of a text, those of the outermost case list of each.
+/// The cases of the outermost case list of each definition of a text.
 pub fn case_places<'a>(alloc: Global, source: &'a [u8]) -> Result<Vec<CasePlace<'a>>, AllocError> {
     let Ok(tokens) = token_list(alloc, source) else {
         return Err(AllocError);

@@ -20,10 +20,10 @@ use std::alloc::{AllocError, Global};
 use wb_io::Files;
 use y86_base::Variant;
 
-/// The most bytes that an HCL file has.
+/// The most bytes of an HCL file.
 pub const HCL_LIMIT: u64 = 65_536;
 
-/// What is printed, and the status.
+/// The output, and the status.
 #[derive(Drop)]
 pub struct Said {
     pub status: u8,
@@ -73,7 +73,8 @@ pub fn json_text(out: Writer<Global>) -> Result<Vec<u8>, AllocError> {
     Ok(text)
 }
 
-/// Writes the members of a yes: the verdict, whether iaddq was asked, and whether the file names it.
+/// Writes the members for an accepted file: the verdict, whether the check covered iaddq, and whether the file names
+/// it.
 pub fn put_yes_facts(
     out: &mut Writer<Global>,
     variant: Variant,
@@ -87,7 +88,7 @@ pub fn put_yes_facts(
     out.boolean(is_named)
 }
 
-/// What is printed of a yes.
+/// The output for an accepted file.
 fn yes_text(
     alloc: Global,
     variant: Variant,
@@ -115,7 +116,7 @@ fn yes_text(
     Ok(out.into_bytes())
 }
 
-/// What is printed of a no.
+/// The output for a refusal.
 fn no_text<'a>(
     alloc: Global,
     cases: &'a [CasePlace<'a>],
@@ -135,7 +136,7 @@ fn no_text<'a>(
     Ok(out.into_bytes())
 }
 
-/// What is printed of an answer.
+/// The output for an answer.
 fn answer_text<'a>(
     alloc: Global,
     cases: &'a [CasePlace<'a>],

@@ -22,7 +22,7 @@ pub struct Ordered {
     pub order: Order,
 }
 
-/// The file of a design, by what its findings are explained with.
+/// What the findings on the file of a design are explained with.
 pub fn explained_file<'a>(ordered: &'a Ordered, cases: &'a [CasePlace<'a>]) -> ExplainedFile<'a>
     ensures rows { result.rows.now ≡ ordered.now.table.rows }
     ensures terms { result.terms.now ≡ ordered.now.design.terms }

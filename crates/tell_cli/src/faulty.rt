@@ -23,10 +23,10 @@ enum Kind {
     Object,
 }
 
-/// What a call of `fault` asks, beside its file.
+/// The parameters of `fault` apart from its file.
 #[derive(Clone, Copy, Debug)]
 pub struct FaultQuestion {
-    /// The datapath that an HCL file is for; without one, that whose names fit best.
+    /// The datapath that an HCL file is for; without one, the datapath whose names fit best.
     pub path: Option<Path>,
     /// The instruction set that a source is assembled for.
     pub variant: Variant,
@@ -69,7 +69,7 @@ pub fn tables(alloc: Global) -> Result<Tables, Memory>
     })
 }
 
-/// The faults of an HCL text; for the datapath that is asked, or for the one whose names fit best.
+/// The faults of an HCL text, for the datapath that is asked for, or for the one whose names fit best.
 pub fn hcl_faults_of(
     alloc: Global,
     text: &[u8],
@@ -100,7 +100,7 @@ fn report_of(alloc: Global, kind: Kind, text: &[u8], asked: FaultQuestion) -> Re
     }
 }
 
-/// What is printed of a report.
+/// The output for a report.
 pub fn printed(alloc: Global, file: &str, report: &Report, json: bool) -> Result<Vec<u8>, Memory>
     ensures { IfOk result (λ text. text.items ≡ spec.printed json file.now report.now) }
 {
@@ -116,7 +116,7 @@ pub fn printed(alloc: Global, file: &str, report: &Report, json: bool) -> Result
     report_text(alloc, file.as_bytes(), report)
 }
 
-/// What is said of a report: status 5 where it has a fault.
+/// The output for a report, and the status: 5 if it has a fault.
 fn said_of(alloc: Global, file: &str, report: &Report, json: bool) -> Result<Said, Memory>
     ensures status { IfOk result (λ said. (said.status ≡ 0) ↔ (report.now.faults ≡ [])) }
     ensures text { IfOk result (λ said. said.text.items ≡ spec.printed json file.now report.now) }
@@ -129,7 +129,7 @@ fn said_of(alloc: Global, file: &str, report: &Report, json: bool) -> Result<Sai
     }
 }
 
-/// Says every fault of a file: status 5 where there is one.
+/// Prints every fault of a file. The status is 5 if there is one.
 pub fn tell_faults<F: Files>(
     alloc: Global,
     file: &str,

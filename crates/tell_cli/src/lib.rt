@@ -1,4 +1,5 @@
-//! What the program `y86-tell` says: it explains, in sentences or as JSON, what `y86` answers.
+//! The program `y86-tell`, apart from its connection to the system: it explains, in sentences or as JSON, the answers
+//! of `y86`.
 #![tactic(auto)]
 
 mod answering;

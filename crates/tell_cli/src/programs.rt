@@ -11,7 +11,7 @@ use wb_io::{Files, Sink};
 use y86_base::Variant;
 use yo_object::{YoFault, YoWhy};
 
-/// What a call of `program` asks, beside its file.
+/// The parameters of `program` apart from its file.
 #[derive(Clone, Copy, Debug)]
 pub struct ProgramQuestion {
     /// The instruction set.
@@ -22,7 +22,7 @@ pub struct ProgramQuestion {
     pub limit: u64,
 }
 
-/// The most bytes that an object file has.
+/// The most bytes of an object file.
 pub const OBJECT_LIMIT: u64 = 1_048_576;
 
 /// Whether a memory may have this size: a multiple of 8 from 64 to 1,048,576.
@@ -55,7 +55,7 @@ pub fn object_stop(alloc: Global, file: &str, text: &[u8], size: u64, fault: &Yo
     text_stop(alloc, file, text, size)
 }
 
-/// Says whether the theorem covers the program of an object file.
+/// Reports whether the theorem covers the program of an object file.
 pub fn report_program<F: Files, O: Sink>(
     alloc: Global,
     file: &str,

@@ -1,4 +1,4 @@
-//! `run`: a program under an HCL file for PIPE beside its run by instructions.
+//! `run`: runs a program under an HCL file for PIPE and by its instructions, side by side.
 ghost use Rattle.std.specs.Prelude.{◌≡◌, ◌≢◌, ◌↔◌, ◌<◌, ◌^◌, IfOk, true};
 ghost use Rattle.run_report.specs.Outcome.{is_same};
 ghost use Rattle.run_report.specs.declared.outcome.Outcome.{Outcome};
@@ -20,7 +20,7 @@ use wb_io::Files;
 use y86_base::Variant;
 use yo_object::YoFault;
 
-/// What a call of `run` asks, beside its files.
+/// The parameters of `run` apart from its files.
 #[derive(Clone, Copy, Debug)]
 pub struct Asked {
     pub variant: Variant,
@@ -29,7 +29,7 @@ pub struct Asked {
     /// The most cycles.
     pub limit: u64,
     pub json: bool,
-    /// Whether the check is asked too.
+    /// Whether the check is run too.
     pub checked: bool,
 }
 
@@ -88,7 +88,7 @@ fn run_texts(alloc: Global, source: &[u8], object: &[u8], asked: &Asked) -> Resu
     }
 }
 
-/// What is printed of an outcome.
+/// The output for an outcome.
 fn outcome_text(
     alloc: Global,
     asked: &Asked,
@@ -107,7 +107,7 @@ fn outcome_text(
     }
 }
 
-/// What is said of a run. The status is 0 exactly where both runs ended alike.
+/// The output for a run, and the status, which is 0 exactly if both runs ended alike.
 fn said_of(alloc: Global, asked: &Asked, run: &Run) -> Result<Said, AllocError>
     ensures { IfOk result (λ said. (said.status ≡ 0) ↔ (is_same run.now.outcome.compared ≡ true)) }
 {
@@ -117,7 +117,7 @@ fn said_of(alloc: Global, asked: &Asked, run: &Run) -> Result<Said, AllocError>
     })
 }
 
-/// Runs a program under an HCL file for PIPE and by its instructions, and says where they differ.
+/// Runs a program under an HCL file for PIPE and by its instructions, and reports where they differ.
 pub fn tell_run<F: Files>(
     alloc: Global,
     hcl: &str,

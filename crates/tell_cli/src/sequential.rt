@@ -20,7 +20,7 @@ use std::alloc::{AllocError, Global};
 use wb_io::Files;
 use y86_base::Variant;
 
-/// What is asked of a file.
+/// The parameters of the check.
 #[derive(Clone, Copy)]
 pub struct Question {
     pub which: Datapath,
@@ -41,7 +41,7 @@ pub fn answer_sequential(
     diagnose_seq(alloc, which, variant, &ordered.design, &ordered.order)
 }
 
-/// What is printed of a yes.
+/// The output for an accepted file.
 fn yes_text(alloc: Global, asked: Question, ordered: &Ordered) -> Result<Vec<u8>, AllocError> {
     let is_named = names_iaddq(
         alloc,
@@ -61,7 +61,7 @@ fn yes_text(alloc: Global, asked: Question, ordered: &Ordered) -> Result<Vec<u8>
     Ok(out.into_bytes())
 }
 
-/// What is printed of a no.
+/// The output for a refusal.
 fn no_text<'a>(
     alloc: Global,
     asked: Question,
@@ -80,7 +80,7 @@ fn no_text<'a>(
     Ok(out.into_bytes())
 }
 
-/// What is printed of an answer.
+/// The output for an answer.
 fn answer_text<'a>(
     alloc: Global,
     asked: Question,

@@ -7,7 +7,7 @@ use show_text::{ShowMatches, found_of, put_found, put_found_json, put_names};
 use std::alloc::{AllocError, Global};
 use y86_base::Memory;
 
-/// What is found as JSON.
+/// The JSON of what was found.
 fn found_json(alloc: Global, found: &ShowMatches) -> Result<Vec<u8>, AllocError> {
     let tables = match tables(alloc) {
         Ok(tables) => tables,
@@ -18,7 +18,7 @@ fn found_json(alloc: Global, found: &ShowMatches) -> Result<Vec<u8>, AllocError>
     json_text(out)
 }
 
-/// What is found in sentences; the names of everything, where no word is given.
+/// The sentences on what was found; the names of everything if no word is given.
 fn found_text(
     alloc: Global,
     word: Option<&str>,
@@ -40,7 +40,7 @@ fn found_text(
     Ok(text.into_bytes())
 }
 
-/// Explains a word: status 1 where there is nothing of this name.
+/// Explains a word. The status is 1 if nothing has this name.
 pub fn show(alloc: Global, word: Option<&str>, json: bool) -> Result<Said, Stop> {
     let found = found_of(alloc, word)?;
     let text = if json {

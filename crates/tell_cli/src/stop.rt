@@ -1,4 +1,4 @@
-//! Why a call ends without an answer: the status of each stop, and what it says on standard error.
+//! Why a call ends without an answer: the status of each stop, and its message on standard error.
 ghost use Rattle.std.specs.Prelude.{◌≡◌};
 ghost use Rattle.tell_cli.specs.Stops as spec;
 
@@ -8,7 +8,7 @@ use wb_io::ReadErr;
 /// Why a call ends without an answer.
 #[derive(Drop)]
 pub enum Stop {
-    /// The arguments can't be answered.
+    /// The arguments aren't a valid command line.
     Usage(&'static str),
     /// A read of the file failed.
     Read,

@@ -1,4 +1,4 @@
-//! Statements that are accepted with bytes assembled by hand, and sources that are refused.
+//! Tests of statements that are accepted, with bytes assembled by hand, and of sources that are refused.
 use std::process::Abort;
 use std::test::Fail;
 use y86_base::Variant;
@@ -352,7 +352,7 @@ static REFUSED: [Refused; 55] = [
         line: 1,
         why: AsmWhy::Syntax,
     },
-    // Tokens are read as long as they go, and a name ends where a blank stands.
+    // Tokens are as long as possible, and a blank ends a name.
     Refused {
         source: b"jmp5",
         size: 64,
@@ -401,7 +401,7 @@ static REFUSED: [Refused; 55] = [
         line: 1,
         why: AsmWhy::Syntax,
     },
-    // One comment, and last on its line.
+    // Only one comment, and only at the end of the line.
     Refused {
         source: b"/* a */ halt",
         size: 64,
@@ -542,7 +542,7 @@ static REFUSED: [Refused; 55] = [
         line: 3,
         why: AsmWhy::OutsideMemory,
     },
-    // Which faulty lines define their label.
+    // Which faulty lines define their labels.
     Refused {
         source: b"jmp b\nb: halt x",
         size: 64,
@@ -561,7 +561,7 @@ static REFUSED: [Refused; 55] = [
         line: 2,
         why: AsmWhy::OutsideMemory,
     },
-    // Of several faults on a line the least.
+    // Of several faults on a line the least counts.
     Refused {
         source: b"a:\na: .byte 256",
         size: 64,
@@ -636,7 +636,7 @@ static REFUSED: [Refused; 55] = [
     },
 ];
 
-/// Each kind of statement once, and what blanks, comments and numbers may look like, with bytes assembled by hand.
+/// Each kind of statement once, and the forms of blanks, comments and numbers, with bytes assembled by hand.
 #[test]
 fn assembles_statements(rt: HostRuntime) {
     for Accepted {
@@ -678,7 +678,7 @@ fn tells_faults(rt: HostRuntime) -> Result<(), Fail> {
     Ok(())
 }
 
-/// A source of labels alone, whose names are the digits of numbers.
+/// A source with nothing but labels, whose names are the digits of numbers.
 fn labels(rt: &HostRuntime, count: u64) -> Result<Vec<u8>, Fail> {
     let mut source = Vec::new(rt.alloc());
     for n in 0..count {
@@ -696,7 +696,7 @@ fn labels(rt: &HostRuntime, count: u64) -> Result<Vec<u8>, Fail> {
     Ok(source)
 }
 
-/// 65,535 labels are accepted, also when one is used again; one more is refused, and it isn't defined.
+/// 65,535 labels are accepted, also if one is used again. Another label is refused, and isn't defined.
 #[test]
 fn counts_labels(rt: HostRuntime) -> Result<(), Fail> {
     let mut source = labels(&rt, 65535)?;

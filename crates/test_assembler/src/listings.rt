@@ -1,4 +1,4 @@
-//! Listings of the assembler, line by line.
+//! Tests of the assembler's listings, line by line.
 use std::process::Abort;
 use std::test::Fail;
 use y86_base::Variant;
@@ -130,7 +130,7 @@ static DATA_LINES: [Listed; 7] = [
     },
 ];
 
-/// The second instruction set has one mnemonic more, and else the same bytes.
+/// The second instruction set has another mnemonic, and otherwise the same bytes.
 static FULL: &[u8] = b"iaddq $5,%rax\naddq %rdx,%rax";
 
 static FULL_LINES: [Listed; 2] = [

@@ -1,4 +1,4 @@
-//! Object text that is printed and read back, and each reason of a refusal.
+//! Tests of object text: it is printed and read back, and refused for each reason.
 use std::test::Fail;
 use y86_base::Variant;
 use yas_asm::assemble;
@@ -82,7 +82,7 @@ fn expected_byte(bytes: &[(u64, u8)], address: u64) -> u8 {
     byte
 }
 
-/// What is printed of a source, byte by byte, and its image at the size of the case.
+/// The output for a source, byte by byte, and its image at the size of the case.
 #[test]
 fn prints_and_reads_back(rt: HostRuntime) -> Result<(), Fail> {
     for case in PRINTED.iter() {
@@ -106,7 +106,7 @@ struct Accepted {
     bytes: &'static [(u64, u8)],
 }
 
-/// Texts without a fault at 64 bytes, and some of the bytes that they put; all others are looked at too.
+/// Texts without a fault at 64 bytes, and some of the bytes that they put; the test checks all other bytes too.
 static ACCEPTED: [Accepted; 14] = [
     Accepted {
         text: b"",

@@ -1,4 +1,4 @@
-//! Memory images, numbers and texts.
+//! Tests of memory images, numbers and texts.
 use std::test::Fail;
 use y86_base::{
     Boxed, Cursor, Image, ImageFault, Items, Numeral, Regs, Stat, after_blanks, decimal_at,
@@ -30,7 +30,7 @@ fn sizes_of_images(rt: HostRuntime) -> Result<(), Fail> {
 
 #[test]
 fn images_at_their_edges(rt: HostRuntime) -> Result<(), Fail> {
-    // An image of 64 bytes: the word put, at an address; whether it is inside; then the byte at the address.
+    // An image of 64 bytes: the word to put, and its address; whether it is inside; then the byte at the address.
     static WORDS: [(u64, u64, bool, Option<u8>); 7] = [
         (0, 0x1122_3344_5566_7788, true, Some(0x88)),
         (56, 0x0102_0304_0506_0708, true, Some(0x08)),
@@ -147,7 +147,7 @@ fn lists_of_items(rt: HostRuntime) -> Result<(), Fail> {
 
 #[test]
 fn numbers(rt: HostRuntime) -> Result<(), Fail> {
-    // The base and the digits, and the number.
+    // The base, the digits, and the number.
     static NUMBERS: [(u64, &str, Option<u64>); 13] = [
         (10, "", Some(0)),
         (16, "", Some(0)),
@@ -174,7 +174,7 @@ fn numbers(rt: HostRuntime) -> Result<(), Fail> {
 
 #[test]
 fn fronts(rt: HostRuntime) -> Result<(), Fail> {
-    // A text, what stands behind its blanks, the hex digits at its front, and what stands behind them.
+    // A text, what follows its blanks, the hex digits at its front, and what follows them.
     static FRONTS: [(&str, &str, &str, &str); 6] = [
         ("", "", "", ""),
         (" \t\r", "", "", " \t\r"),
@@ -196,7 +196,7 @@ fn fronts(rt: HostRuntime) -> Result<(), Fail> {
 
 #[test]
 fn decimals(rt: HostRuntime) -> Result<(), Fail> {
-    // A text, whether a `-` stands in front, the word of its number from -32768 to 65535, and what stands behind it.
+    // A text, whether it begins with `-`, the word of its number from -32768 to 65535, and what follows the number.
     static DECIMALS: [(&str, bool, Option<u64>, &str); 8] = [
         ("-32768,", true, Some(u64::MAX - 32767), ","),
         ("-32769", true, None, ""),

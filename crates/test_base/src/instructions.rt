@@ -1,4 +1,4 @@
-//! Single steps, and instructions with their bytes, against results worked out by hand.
+//! Tests of single steps and of the encoding of instructions, against results worked out by hand.
 use std::alloc::Global;
 use std::process::Abort;
 use std::test::Fail;
@@ -41,7 +41,7 @@ const NOTHING: Rec = Rec {
     stat: Stat::Aok,
 };
 
-/// Steps that end with another status than AOK, on 64 bytes of memory: the PC, the bytes there, the word in every
+/// Steps that end with a status other than AOK, on 64 bytes of memory: the PC, the bytes there, the word in every
 /// register, and then the status, icode and ifun of the record.
 static REFUSED: [(u64, &[u8], u64, Stat, u64, u64); 28] = [
     // halt, also with an ifun, which it ignores
@@ -87,7 +87,7 @@ static REFUSED: [(u64, &[u8], u64, Stat, u64, u64); 28] = [
     ),
 ];
 
-/// A step that ends with AOK and leaves the flags.
+/// A step that ends with AOK and doesn't change the flags.
 struct Done {
     pc: u64,
     code: &'static [u8],
@@ -98,7 +98,7 @@ struct Done {
 
     icode: u64,
     ifun: u64,
-    /// The destinations with their values, the store and the PC behind the step.
+    /// The destinations with their values, the store and the PC after the step.
     e: (u64, u64),
     m: (u64, u64),
     store: Option<(u64, u64)>,
@@ -309,7 +309,7 @@ static MOVES: [Done; 22] = [
         next: 2,
         ..DONE
     },
-    // the flags stay
+    // the flags don't change
     Done {
         code: &[0xb0, 0x2f],
         registers: (0, 0, 56),
@@ -344,7 +344,7 @@ static OPERATIONS: [(u8, u64, u64, u64, Flags); 17] = [
     (3, HIGH, MAX, LOW, S),
 ];
 
-/// Whether the conditions 0 to 6 (always, le, l, e, ne, ge, g) hold of the flags.
+/// Whether the conditions 0 to 6 (always, le, l, e, ne, ge, g) hold for the flags.
 static CONDITIONS: [(Flags, [bool; 7]); 6] = [
     (NONE, [true, false, false, false, true, true, true]),
     (Z, [true, true, false, true, false, true, false]),
@@ -435,7 +435,7 @@ fn steps(rt: HostRuntime) -> Result<(), Fail> {
     Ok(())
 }
 
-/// An instruction of two bytes at 0, of which the second is `12`, with 7 in `%rcx`.
+/// An instruction of two bytes at 0, whose second byte is `12`, with 7 in `%rcx`.
 fn pair(alloc: Global, first: u8, flags: Flags) -> Result<Machine, Fail> {
     let mut m = machine(alloc, 0, &[first, 0x12])?;
     m.regs.set(1, 7);
@@ -502,7 +502,7 @@ fn operations_and_conditions(rt: HostRuntime) -> Result<(), Fail> {
     Ok(())
 }
 
-/// An `iaddq V, %rdx`: its first two bytes, the byte of which V has eight, the word before and after, and the flags.
+/// An `iaddq V, %rdx`: its first two bytes, the byte that V has eight times, the word before and after, and the flags.
 static ADDED: [(u8, u8, u8, u64, u64, Flags); 5] = [
     (0xc0, 0xf2, 0x00, 5, 5, NONE),
     (0xc0, 0xf2, 0xff, 1, 0, Z),
@@ -551,8 +551,8 @@ fn the_larger_set(rt: HostRuntime) -> Result<(), Fail> {
     Ok(())
 }
 
-/// For each icode its largest ifun in a valid instruction, the register fields and the constant of an example, and
-/// the bytes of the example with ifun 0: the first, and those behind it.
+/// For each icode its largest ifun in a valid instruction, the register fields and the constant of an example, and the
+/// bytes of the example with ifun 0: the first byte, and those after it.
 static ENCODINGS: [(u8, u8, u8, u8, u64, u8, &[u8]); 13] = [
     (0, 0, 15, 15, 0, 0x00, &[]),
     (1, 0, 15, 15, 0, 0x10, &[]),
@@ -611,8 +611,8 @@ fn check_encoding(
     Ok(())
 }
 
-/// What isn't valid beside a valid instruction: a used register field of 15, an unused one of another number, and a
-/// constant where the instruction has none.
+/// Changes that make a valid instruction invalid: 15 in a used register field, another number in an unused one, and a
+/// constant if the instruction has none.
 fn check_invalid(rt: &impl Abort, i: &Instr, has_const: bool) {
     let r_a = if i.r_a == 15 { 0 } else { 15 };
     assert!(rt; !valid(Variant::Full, &Instr { r_a, ..*i }), "{i:?}");

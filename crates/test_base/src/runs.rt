@@ -1,11 +1,11 @@
-//! Runs at the level of instructions, and their reports.
+//! Tests of runs at the level of instructions, and of their reports.
 use std::test::Fail;
 use wb_io::{Failed, MemSink};
 use y86_base::{Image, Variant};
 use y86_isa::Machine;
 use yis_run::{End, report, run};
 
-/// A program from address 0 on, the limit of its run, and the report.
+/// A program from address 0, the limit of its run, and the report.
 struct Case {
     program: &'static [u8],
     limit: u64,

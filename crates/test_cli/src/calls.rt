@@ -1,17 +1,17 @@
-//! Calls of the program, and what each did.
+//! Calls the program in memory, and records what each call did.
 use crate::files::{Entry, in_memory};
 use cli_plans::Status;
 use std::alloc::{AllocError, Global};
 use wb_io::{DripSink, MemSink};
 use y86_cli::run;
 
-/// The room of standard output, in bytes; no answer of a row is longer.
+/// The space of standard output in bytes. No answer to a row is longer.
 const ROOM: u64 = 1 << 17;
 
-/// The room of standard error, in bytes.
+/// The space of standard error in bytes.
 const LINE: u64 = 1 << 10;
 
-/// What a call did: its status, and what stands on standard output and on standard error.
+/// What a call did: its status, and the bytes on standard output and on standard error.
 #[derive(Drop)]
 pub struct Done {
     pub status: Status,
@@ -19,8 +19,8 @@ pub struct Done {
     pub err: Vec<u8>,
 }
 
-/// What goes wrong in a call: the reads and the writes of each stream with these numbers fail, counted from 0, and standard
-/// output has room for so many bytes.
+/// The faults of a call: the reads and the writes of each stream with these numbers, counted from 0, fail, and standard
+/// output has space for a number of bytes.
 #[derive(Clone, Copy)]
 pub struct Trouble<'a> {
     pub reads: &'a [u64],
@@ -30,7 +30,7 @@ pub struct Trouble<'a> {
 }
 
 impl Trouble<'_> {
-    /// Nothing goes wrong.
+    /// No faults.
     pub fn none() -> Trouble<'static> {
         Trouble {
             reads: &[],
@@ -41,7 +41,7 @@ impl Trouble<'_> {
     }
 }
 
-/// A sink with room for `room` bytes, of which the writes with these numbers fail.
+/// A sink with space for `room` bytes, whose writes with these numbers fail.
 fn sink(alloc: Global, fail: &[u64], room: u64) -> Result<MemSink, AllocError> {
     let mut sink = MemSink::new(alloc, Vec::from_slice(alloc, fail)?);
     match sink.reserve(room) {
@@ -68,7 +68,8 @@ pub fn call(
     })
 }
 
-/// One call over the files whose standard output takes one byte a write, and fails at the write with this number.
+/// One call over the files with a standard output that takes one byte at a time and fails at the write with this
+/// number.
 pub fn dripping(
     alloc: Global,
     entries: &[Entry],

@@ -1,4 +1,5 @@
-//! Calls in which each write or read fails in turn, until a call has no fault; each is compared with the call without faults.
+//! Calls in which each write or read fails in turn, until a call has no fault. Each is compared with the call without
+//! faults.
 use crate::calls::{Done, Trouble, call, dripping};
 use crate::files::Entry;
 use std::alloc::{AllocError, Global};
@@ -23,8 +24,8 @@ fn is_broken(done: &Done, whole: &Done) -> bool {
     done.status == 4 && is_part(done.out.as_slice(), whole.out.as_slice()) && done.err.is_empty()
 }
 
-/// The number of the first write, each `step`-th in turn, at which a call had no fault, or none where one ended otherwise
-/// before.
+/// The number of the first write, each `step`-th in turn, at which a call had no fault, or none if an earlier one ended
+/// otherwise.
 fn broken_writes(
     alloc: Global,
     entries: &[Entry],
@@ -71,8 +72,8 @@ pub fn writes(
     }
 }
 
-/// Whether the writes of one byte that fail, each `step`-th in turn, leave just the bytes before them, and one behind the last
-/// changes nothing.
+/// Whether each failed write of one byte, each `step`-th in turn, leaves just the bytes before it, and a fault after
+/// the last byte changes nothing.
 fn drips_well(
     alloc: Global,
     entries: &[Entry],
@@ -95,7 +96,7 @@ fn drips_well(
     Ok(is_same(&dripping(alloc, entries, words, length)?, whole))
 }
 
-/// Each `step`-th write of one byte fails in turn, and at last none.
+/// Each `step`-th write of one byte fails in turn, and at the end none.
 pub fn drips(
     alloc: Global,
     entries: &[Entry],
@@ -113,8 +114,8 @@ pub fn drips(
     }
 }
 
-/// Each write on standard error fails in turn: the status and standard output are as before, and a proper prefix of the line
-/// stands on standard error.
+/// Each write on standard error fails in turn: the status and standard output are as before, and standard error has a
+/// proper prefix of the line.
 pub fn lines(alloc: Global, entries: &[Entry], words: &[String]) -> Result<String, AllocError> {
     let whole = call(alloc, entries, words, Trouble::none())?;
     let status = whole.status;
@@ -145,7 +146,7 @@ pub fn lines(alloc: Global, entries: &[Entry], words: &[String]) -> Result<Strin
     )
 }
 
-/// What a call does whose read with this number fails.
+/// What a call does if the read with this number fails.
 pub fn read(
     alloc: Global,
     entries: &[Entry],

@@ -1,9 +1,9 @@
-//! The files of the calls: texts as the input spells them, and designs of `examples/` with other definitions.
+//! The files of the calls: texts as the input writes them, and designs of `examples/` with other definitions.
 use std::alloc::{AllocError, Global};
 use test_designs::Example;
 use wb_io::MemFiles;
 
-/// A file: its name, and its text, or a design and the definitions that stand in place of the design's own.
+/// A file: its name, and its text, or a design and the definitions that replace the design's own.
 #[derive(Drop)]
 pub struct Entry {
     name: String,
@@ -68,7 +68,7 @@ impl Entry {
         Ok(())
     }
 
-    /// Appends a byte so many times.
+    /// Appends a byte `count` times.
     pub fn fill(&mut self, byte: u8, count: u64) -> Result<(), AllocError> {
         for _ in 0..count {
             self.text.push(byte)?;
@@ -96,7 +96,7 @@ impl Entry {
     }
 }
 
-/// The files in memory, of which the reads with these numbers fail.
+/// The files in memory. The reads with these numbers fail.
 pub fn in_memory(alloc: Global, entries: &[Entry], fail: &[u64]) -> Result<MemFiles, AllocError> {
     let mut files = MemFiles::new(alloc, Vec::from_slice(alloc, fail)?);
     for entry in entries {

@@ -1,5 +1,5 @@
-//! Calls of the program over files and sinks in memory, with their faults. Standard input is files and calls, line by line;
-//! standard output is transcripts. `docs/TESTING.md` says what each line asks for.
+//! Calls the program over files and sinks in memory, with their faults. Standard input is files and calls, line by
+//! line; standard output is transcripts. `docs/TESTING.md` describes each line.
 #![tactic(auto)]
 
 mod calls;

@@ -1,4 +1,4 @@
-//! The lines of the input, and what each of them is answered.
+//! The lines of the input, and the answer to each.
 use crate::calls::{Done, Trouble, call};
 use crate::faults::{drips, lines, read, writes};
 use crate::files::{Entry, design_of};
@@ -17,7 +17,7 @@ pub struct Rows {
     entries: Vec<Entry>,
 }
 
-/// The words of a call; `''` is an empty one.
+/// The words of a call; `''` is an empty word.
 fn words_of(alloc: Global, text: &str) -> Result<Vec<String>, AllocError> {
     let mut words = Vec::new(alloc);
     for word in text.split_whitespace() {
@@ -27,7 +27,7 @@ fn words_of(alloc: Global, text: &str) -> Result<Vec<String>, AllocError> {
     Ok(words)
 }
 
-/// The number in front of the words of a call, and the words.
+/// The number before the words of a call, and the words.
 fn counted(text: &str) -> (u64, &str) {
     match text.split_once(' ') {
         None => (0, text),
@@ -35,8 +35,8 @@ fn counted(text: &str) -> (u64, &str) {
     }
 }
 
-/// A transcript of a call: what stands on standard output, where a text without a line feed at its end gets a `\` and one; the
-/// line on standard error behind a `!`; and the status behind a `=`.
+/// A transcript of a call: standard output, where `\` and a line feed follow a text without a line feed at its end; the
+/// line on standard error after a `!`; and the status after a `=`.
 fn transcript(alloc: Global, done: &Done) -> Result<String, AllocError> {
     let mut text = String::from_utf8_lossy(alloc, done.out.as_slice())?;
     if !text.is_empty() && !text.ends_with('\n') {
@@ -51,7 +51,7 @@ fn transcript(alloc: Global, done: &Done) -> Result<String, AllocError> {
     Ok(text)
 }
 
-/// What `accept_pipe` answers on a design: its setting `lf`, or that it isn't accepted.
+/// The answer of `accept_pipe` to a design: its setting `lf`, or that it isn't accepted.
 fn accepted(alloc: Global, text: &[u8]) -> &'static str {
     let Ok(ordered) = pipe_design(alloc, "h.hcl", text) else {
         return "no design\n";
@@ -78,7 +78,7 @@ impl Rows {
         }
     }
 
-    /// What a line of the input is answered. An empty line forgets all files.
+    /// The answer to a line of the input. An empty line forgets all files.
     pub fn answer(&mut self, line: &str) -> Result<String, AllocError> {
         let alloc = self.alloc;
         if line.is_empty() {
@@ -111,7 +111,7 @@ impl Rows {
         }
     }
 
-    /// What a line with a name and a rest is answered.
+    /// The answer to a line with a name and a rest.
     fn asked(&mut self, name: &str, rest: &str) -> Result<String, AllocError> {
         let alloc = self.alloc;
         match name {
@@ -133,7 +133,7 @@ impl Rows {
         }
     }
 
-    /// Appends to the last file a byte so many times: the count stands in front of two hexadecimal digits.
+    /// Appends a byte to the last file, a number of times: the count comes before two hexadecimal digits.
     fn fill(&mut self, rest: &str) -> Result<(), AllocError> {
         let (count, byte) = counted(rest);
         let byte = u8::from_str_radix(byte, 16).unwrap_or(32);
@@ -143,7 +143,7 @@ impl Rows {
         }
     }
 
-    /// What a call is answered, behind a line that repeats it.
+    /// The answer to a call, after a line that repeats it.
     fn called(&self, name: &str, rest: &str) -> Result<String, AllocError> {
         let alloc = self.alloc;
         let mut text = format!(in alloc; "{name} {rest}\n")?;
@@ -187,7 +187,7 @@ impl Rows {
         }
     }
 
-    /// Transcripts of the calls of which a read fails, each in turn, up to the first that has no failed read.
+    /// Transcripts of the calls in which a read fails, each in turn, up to the first without a failed read.
     fn reads(&self, words: &[String]) -> Result<String, AllocError> {
         let alloc = self.alloc;
         let mut text = String::new(alloc);
@@ -201,7 +201,7 @@ impl Rows {
         Ok(text)
     }
 
-    /// What `accept_pipe` answers on the file with this name.
+    /// The answer of `accept_pipe` to the file with this name.
     fn accepted(&self, name: &str) -> Result<String, AllocError> {
         let alloc = self.alloc;
         for entry in &self.entries {

@@ -1,4 +1,4 @@
-//! The atoms of designs, and designs that have none.
+//! Tests of the atoms of designs, and of designs without atoms.
 use ctl_atoms::{Atom, AtomKind, CtlFault, Leaf, atoms};
 use dp_signals::{law_of_tables, pipe_row as row, pipe_table};
 use hcl_binding::bind;
@@ -29,9 +29,9 @@ const F_VAL_C: Leaf = Leaf::Name(row::F_VAL_C);
 
 const F_VAL_P: Leaf = Leaf::Name(row::F_VAL_P);
 
-/// Definitions where all others are 0, and their atoms.
+/// Definitions, with 0 for all others, and their atoms.
 static ATOMS: [(&[u8], &[(AtomKind, Leaf, Leaf)]); 8] = [
-    // no branch behind a guard that is 1 gives a leaf, the inner atoms come first, `<=` is not `>`
+    // no branch after a guard that is 1 has a leaf, the inner atoms come first, `<=` is not `>`
     (
         b"bool F_bubble = F_predPC <= [ E_valC < 3 : E_valC; 1 : E_valA; 1 : E_valB; ];",
         &[
@@ -40,7 +40,7 @@ static ATOMS: [(&[u8], &[(AtomKind, Leaf, Leaf)]); 8] = [
             (LESS, E_VAL_A, F_PRED_PC),
         ],
     ),
-    // where no guard is 1 the number 0 comes last; two numbers have no atom; the left leaf goes first
+    // if no guard is 1, the number 0 comes last; two numbers have no atom; the left leaf varies slowest
     (
         b"bool F_bubble = [ M_Cnd : E_valC; e_Cnd : E_valA; ] == [ M_Cnd : 7; e_Cnd : F_predPC; ];",
         &[
@@ -53,12 +53,12 @@ static ATOMS: [(&[u8], &[(AtomKind, Leaf, Leaf)]); 8] = [
             (SAME, F_PRED_PC, Leaf::Number(0)),
         ],
     ),
-    // a leaf is equal to itself and not below itself
+    // a leaf is equal to itself and not less than itself
     (
         b"bool F_bubble = E_valC == E_valC || E_valC < E_valC || 3 < 4;",
         &[],
     ),
-    // what no value depends on is asked too
+    // atoms that no value depends on are listed too
     (
         b"word f_pc = [ 1 : 0; M_valA != M_valE : 1; ];",
         &[(SAME, M_VAL_E, M_VAL_A)],
@@ -103,7 +103,7 @@ static BT_ATOMS: [(AtomKind, Leaf, Leaf); 3] = [
     (LESS, E_VAL_C, E_VAL_A),
 ];
 
-/// Definitions where all others are 0, and how many atoms they have or the fault.
+/// Definitions, with 0 for all others, and the number of their atoms or the fault.
 static FAULTS: [(&[u8], Result<usize, CtlFault>); 9] = [
     (
         b"bool F_bubble = F_predPC in { 2, 3, 4, 5, 6, 7, 8, 9, 10, 11, 12, 13, 14, 15, 16, 17, 18, 19, 20, 21, 22, 23, 24, 25, 26, 27, 28, 29, 30, 31, 32, 33,
@@ -146,7 +146,7 @@ static FAULTS: [(&[u8], Result<usize, CtlFault>); 9] = [
     ),
 ];
 
-/// The atoms of PIPE with a file.
+/// The atoms of PIPE under a file.
 fn atoms_of(alloc: Global, file: &[u8]) -> Result<Result<Vec<Atom>, CtlFault>, Fail> {
     let table = pipe_table(alloc)?;
     law_of_tables();
@@ -156,7 +156,7 @@ fn atoms_of(alloc: Global, file: &[u8]) -> Result<Result<Vec<Atom>, CtlFault>, F
     Ok(atoms(alloc, &design, &table, &ordered))
 }
 
-/// The atoms of PIPE with some definitions, where all others are 0.
+/// The atoms of PIPE under definitions, with 0 for all others.
 fn atoms_with(alloc: Global, definitions: &[u8]) -> Result<Result<Vec<Atom>, CtlFault>, Fail> {
     let file = Example::Std.zeros(alloc, definitions)?;
     atoms_of(alloc, file.as_slice())

@@ -1,4 +1,5 @@
-//! What may stand in D, E, M and W, and when the predicted PC is that of the next instruction, worked out by hand.
+//! Tests which contents D, E, M and W may have, and when the predicted PC is that of the next instruction, against
+//! results worked out by hand.
 ghost use Rattle.std.specs.Prelude.{◌<◌, ℕ};
 ghost use Rattle.pipe_motion.specs.Gates.{HasStageFlow};
 
@@ -8,8 +9,7 @@ use std::alloc::Global;
 use std::test::Fail;
 use y86_base::{Items, Memory};
 
-/// What stands in a pipeline register: a good instruction may stop the machine, be a ret, or be a jump that goes another
-/// way than predicted.
+/// What a pipeline register holds. A good instruction may stop the machine, be a ret, or be a mispredicted jump.
 #[derive(Clone, Copy, Debug)]
 enum Held {
     Bubble,
@@ -21,7 +21,7 @@ enum Held {
     Missed,
 }
 
-/// A flow, from D to W, under a file that fetches early from E (`je`) or M (`rm`) or not.
+/// A flow, from D to W, and whether the file fetches early from E (`je`) and from M (`rm`).
 struct Seen {
     d: Held,
     e: Held,
@@ -48,8 +48,8 @@ macro_rules! seen {
     };
 }
 
-/// Only the youngest good instruction stops; wrong ones stand behind one that stops or a missed jump in E; a missed jump and a
-/// ret are the youngest good instruction, until the file fetches behind them.
+/// Only the youngest good instruction stops. Wrong ones follow one that stops, or a mispredicted jump in E. A
+/// mispredicted jump or a ret is the youngest good instruction, until the file fetches after it.
 static SEEN: [Seen; 24] = [
     seen!(Bubble, Bubble, Bubble, Bubble, false, false, true, true),
     seen!(Good, Bubble, Bubble, Bubble, false, false, true, true),
@@ -98,7 +98,7 @@ macro_rules! stage_flow {
     };
 }
 
-/// The gates of what stands in a register, each one of two.
+/// The gates of a register's contents; each is `yes` or `no`.
 fn stage_flow(held: Held, yes: u64, no: u64) -> StageFlowGates
     ensures { (n : ℕ) → yes < n → no < n → HasStageFlow n result }
 {

@@ -1,5 +1,5 @@
-//! Tests of what a control valuation is: the comparisons that a design makes, the gates of its terms, the lines that are allowed, and what
-//! may stand in the stages.
+//! Tests of control valuations: the comparisons that a design makes, the gates of its terms, the lines that are
+//! allowed, and what the stages may hold.
 #![tactic(auto)]
 
 #[cfg(test)]

@@ -1,5 +1,5 @@
-//! The gate of a definition against what its term means, at all values of what it reads: icode and ifun, and the truth of the
-//! one comparison of words that it makes, if any.
+//! Tests the gate of a definition against the meaning of its term, at all values of what it reads: icode and ifun, and
+//! the truth of its comparison of words, if any.
 ghost use Rattle.std.specs.Prelude.{◌≡◌, ◌<◌, ◌≤◌, IfOk, length};
 ghost use Rattle.hcl_types.specs.Tables.{IsBound, IsOrderOf};
 ghost use Rattle.dp_signals.specs.SeqTable.{seq_rows};
@@ -18,7 +18,7 @@ use std::alloc::Global;
 use std::test::Fail;
 use y86_base::{Items, Memory};
 
-/// A design for SEQ but for its `srcA`, `aluA` and `set_cc`: the least that has all other signals.
+/// A design for SEQ without its `srcA`, `aluA` and `set_cc`: the shortest that has all other signals.
 static REST: &[u8] = b"word icode = imem_icode; word ifun = imem_ifun; bool instr_valid = 1;
 bool need_regids = 0; bool need_valC = 0;
 word srcB = RNONE; word dstE = RNONE; word dstM = RNONE;
@@ -30,7 +30,7 @@ word Stat = SAOK; word new_pc = valP;
 /// The usual `srcA` and `aluA`.
 const PLAIN: &[u8] = b"word srcA = RNONE; word aluA = 0;\n";
 
-/// Definitions of `srcA` and `aluA`, and of `set_cc`: one form of term after another.
+/// Definitions of `srcA` and `aluA`, and of `set_cc`: all forms of terms, one after another.
 static TERMS: [(&[u8], &[u8]); 22] = [
     (PLAIN, b"bool set_cc = 1;"),
     (PLAIN, b"bool set_cc = 0;"),
@@ -65,8 +65,8 @@ static TERMS: [(&[u8], &[u8]); 22] = [
     (PLAIN, b"bool set_cc = valA < 5;"),
 ];
 
-/// What the term of that number means, at an icode, an ifun and the truth of its comparisons of words (of `valA == valB`,
-/// `valA < valB`, in number 14 `valB < valA`), which is that of `imem_error` too.
+/// The meaning of the term with this number, at an icode, an ifun and the truth of its comparisons of words (`valA ==
+/// valB`, `valA < valB`, in number 14 `valB < valA`), which is also the truth of `imem_error`.
 fn means(number: usize, icode: u32, ifun: u32, atom: bool) -> bool {
     match number {
         0 | 18 => true,
@@ -118,7 +118,8 @@ fn translated(alloc: Global, d: &Design, o: &Order) -> Result<Told, Memory>
     }
 }
 
-/// The bit of a number of four bits at a variable, where it stands at a place; false beside it.
+/// The value of the variable `at` if the four variables of a place hold a number, the highest bit first; false for a
+/// variable outside the place.
 fn bit_of(number: u32, place: BitRange, at: u32) -> bool {
     if at < place.first {
         return false;
@@ -132,7 +133,8 @@ fn bit_of(number: u32, place: BitRange, at: u32) -> bool {
     }
 }
 
-/// The bits of an icode and an ifun, with other fields that are 0, and one truth for the error and the atoms behind the fields.
+/// The bits of an icode and an ifun, with 0 for the other fields, and one truth for the error and for the atoms, which
+/// follow the fields.
 fn pattern(alloc: Global, vars: u32, icode: u32, ifun: u32, atom: bool) -> Result<Vec<bool>, Memory>
     ensures { IfOk result (λ bits. length bits.items ≡ vars) }
 {
@@ -149,7 +151,7 @@ fn pattern(alloc: Global, vars: u32, icode: u32, ifun: u32, atom: bool) -> Resul
     Ok(bits)
 }
 
-/// At how many values the gate of the term of that number isn't what the term means.
+/// The number of values at which the gate of the term with this number differs from the term's meaning.
 fn differences(alloc: Global, number: usize, told: &Told) -> Result<u32, Memory>
     requires { told.now.gate < length told.now.net.gates }
 {

@@ -1,4 +1,4 @@
-//! The lines that control valuations can have, counted by hand.
+//! Tests the number of lines that control valuations can have, against counts by hand.
 ghost use Rattle.std.specs.Prelude.{◌≡◌, IfOk, length};
 ghost use Rattle.pipe_fields.specs.Layout.{bit_count};
 
@@ -8,8 +8,8 @@ use std::alloc::Global;
 use std::test::Fail;
 use y86_base::{Items, Memory, Variant};
 
-/// A pattern of PIPE's bits: those of a number, the lowest first, behind so many that are 0, and before others that are
-/// all `rest`.
+/// A pattern of PIPE's bits: the bits of a number, the lowest first, after `first` bits that are 0, and before others
+/// that are all `rest`.
 fn pattern(
     alloc: Global,
     first: u32,
@@ -40,7 +40,8 @@ fn pattern(
     Ok(bits)
 }
 
-/// A line of which the bits from a variable on are counted, so many, with others behind them that are all `rest`.
+/// A line, and the patterns to count: `size` bits from the variable `first` on take all values, and the bits after them
+/// are all `rest`.
 struct Counted {
     variant: Variant,
     line: StageLine,
@@ -90,7 +91,7 @@ static COUNTED: [Counted; 3] = [
     },
 ];
 
-/// How many of the patterns are allowed.
+/// The number of patterns that are allowed.
 fn count(alloc: Global, c: &Counted) -> Result<u32, Memory> {
     let mut b = NetBuilder::new(alloc, BIT_COUNT);
     let gate = stage_line_allowed(&mut b, c.variant, c.line)?;

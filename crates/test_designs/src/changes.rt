@@ -1,8 +1,9 @@
-//! Designs of `examples/` with other definitions of some names.
+//! Changes the designs of `examples/`: other definitions for some names.
 use crate::files::Example;
 use std::alloc::{AllocError, Global};
 
-/// Whether definitions define the name that a line does. The kinds `word` and `bool` have as many letters.
+/// Whether definitions define the name that a line defines. The kinds `word` and `bool` have the same number of
+/// letters.
 fn is_defined(line: &[u8], definitions: &[u8]) -> bool {
     let head = match line
         .get(5..)
@@ -19,7 +20,7 @@ fn is_defined(line: &[u8], definitions: &[u8]) -> bool {
 }
 
 impl Example {
-    /// Its text with other definitions, each on a line of its own, in place of those of the same name.
+    /// Its text with other definitions, each on a line of its own, in place of those of the same names.
     pub fn with(self, alloc: Global, definitions: &[u8]) -> Result<Vec<u8>, AllocError> {
         let mut text = Vec::from_slice(alloc, definitions)?;
         text.push(b'\n')?;
@@ -36,7 +37,7 @@ impl Example {
         Ok(text)
     }
 
-    /// Some definitions, each on a line of its own, and 0 for each other name that it defines.
+    /// Definitions, each on a line of its own, and 0 for each other name that the design defines.
     pub fn zeros(self, alloc: Global, definitions: &[u8]) -> Result<Vec<u8>, AllocError> {
         let mut text = Vec::from_slice(alloc, definitions)?;
         text.push(b'\n')?;

@@ -5,7 +5,7 @@
 pub enum Example {
     /// `seq.hcl`: SEQ.
     Seq,
-    /// `sp.hcl`: SEQ+, the sequential datapath that computes the PC as a cycle begins.
+    /// `sp.hcl`: SEQ+, the sequential datapath that computes the PC at the beginning of a cycle.
     Sp,
     /// `std.hcl`: PIPE.
     Std,

@@ -1,4 +1,4 @@
-//! The designs of `examples/`, byte for byte, and these with changes, for the tests of other crates.
+//! The designs of `examples/`, byte for byte and with changes, for the tests of other crates.
 #![tactic(auto)]
 
 mod changes;

@@ -1,4 +1,4 @@
-//! Diagrams of small formulas by hand, and of large ones whose counts are known.
+//! Tests of the diagrams of small formulas that were worked out by hand, and of large ones with known counts.
 ghost use Rattle.std.specs.Prelude.{◌≡◌, IfOk, IfSome, length};
 ghost use Rattle.bdd_core.specs.Meaning.{IsDia};
 
@@ -82,7 +82,7 @@ fn nodes_from_the_root(rt: HostRuntime) -> Result<(), Fail> {
     Ok(())
 }
 
-/// Samples of a size: whether they are valid, how many paths lead to truth, and the least count of gates and of nodes.
+/// Samples of a size: whether they are valid, how many paths lead to truth, and the least counts of gates and of nodes.
 static SAMPLES: [(Sample, u32, bool, u64, u64, u64); 4] = [
     (Sample::Adders, 16, true, 1, 300, 1000),
     (Sample::Queens, 6, false, 4, 300, 1000),
@@ -125,7 +125,7 @@ fn bits_of(alloc: Global, vars: u32, number: u32) -> Result<Vec<bool>, Memory>
     Ok(bits)
 }
 
-/// The truth of a diagram, by a walk of at most so many steps.
+/// The truth of a diagram, by a walk of at most `steps` steps.
 fn walk(store: &Store, root: Dia, bits: &[bool], steps: u32) -> Option<bool>
     requires { IsDia store.now root }
 {
@@ -142,7 +142,7 @@ fn walk(store: &Store, root: Dia, bits: &[bool], steps: u32) -> Option<bool>
     None
 }
 
-/// The truth of a formula where the bits of a number are its variables, by its net and by its diagram.
+/// The truth of a formula whose variables are the bits of a number, by its net and by its diagram.
 fn truths(
     alloc: Global,
     formula: &Formula,

@@ -1,11 +1,12 @@
-//! Samples of formulas of any size.
+//! Samples of formulas of any size, to test and measure diagrams.
 ghost use Rattle.std.specs.Prelude.{◌<◌};
 
 use crate::wires::Wires;
 use nets::Net;
 use std::alloc::Global;
 
-/// A gate of a net, and another: in a sample that of a variable behind all others, which the first doesn't name.
+/// A gate of a net, and another: in a sample it is that of a variable after all others, which the first gate doesn't
+/// use.
 #[derive(Drop)]
 pub struct Formula {
     pub net: Net,
@@ -16,15 +17,15 @@ pub struct Formula {
 /// A kind of formula, of any size.
 #[derive(Clone, Copy)]
 pub enum Sample {
-    /// Two adders of words of so many bits have the same sums and carries.
+    /// Two adders of words with `size` bits have the same sums and carries.
     Adders,
-    /// Both variables are true in one of so many pairs.
+    /// Both variables of at least one of `size` pairs are true.
     Pairs,
-    /// An odd number of so many variables is true, counted upwards and downwards.
+    /// An odd number of `size` variables is true, counted upwards and downwards.
     Parities,
-    /// So many queens stand on a board with as many rows, and none attacks another.
+    /// There are `size` queens on a board with as many rows, and none attacks another.
     Queens,
-    /// Two words of so many bits are equal. All bits of the one stand before those of the other, so a diagram keeps
+    /// Two words of `size` bits are equal. All bits of the first come before those of the second, so a diagram keeps
     /// the whole of the first: about three nodes for each of its values.
     Words,
 }
@@ -33,7 +34,7 @@ impl Sample {
     /// The largest size.
     const MOST: u32 = 1000;
 
-    /// How many variables there are in a size.
+    /// The number of variables in a formula of a size.
     fn vars(self, size: u32) -> Option<u32> {
         if size == 0 || size > Sample::MOST {
             return None;
@@ -70,8 +71,8 @@ impl Sample {
     }
 }
 
-/// The formulas of two texts: a digit is a variable, `!` negates what stands before it, and `&` and `|` join the two
-/// that do.
+/// The formulas of two texts in postfix notation: a digit is a variable, `!` negates the formula before it, and `&` and
+/// `|` join the two before them.
 pub fn formulas_of(alloc: Global, vars: u32, text: &str, other: &str) -> Option<Formula> {
     let mut wires = Wires::new(alloc, vars);
     let gate = postfix(&mut wires, text)?;
@@ -123,7 +124,7 @@ fn sum_by_parity(w: &mut Wires, a: u64, b: u64, carry: u64) -> Option<(u64, u64)
     Some((sum, next))
 }
 
-/// The carry of three bits: two of them are true.
+/// The carry of three bits: at least two of them are true.
 fn carry_by_products(w: &mut Wires, a: u64, b: u64, carry: u64) -> Option<u64> {
     let ab = w.and(a, b)?;
     let ac = w.and(a, carry)?;
@@ -143,7 +144,7 @@ fn sum_by_products(w: &mut Wires, a: u64, b: u64, carry: u64, next: u64) -> Opti
     w.or(single, all)
 }
 
-/// The words' bits stand in turn, the lowest first.
+/// The bits of the two words alternate, the lowest first.
 fn adders(w: &mut Wires, bits: u32) -> Option<u64> {
     let mut same = w.constant(true)?;
     let mut left = w.constant(false)?;
@@ -206,7 +207,7 @@ fn attacks(side: u32, first: u32, second: u32) -> bool
     rows == 0 || columns == 0 || rows == columns
 }
 
-/// A queen stands in a row.
+/// There is a queen in a row.
 fn some_in_row(w: &mut Wires, side: u32, row: u32) -> Option<u64> {
     let mut some = w.constant(false)?;
     for column in 0..side {
@@ -216,7 +217,7 @@ fn some_in_row(w: &mut Wires, side: u32, row: u32) -> Option<u64> {
     Some(some)
 }
 
-/// A square is empty, or no queen stands behind it that it attacks.
+/// A square is empty, or it attacks no queen on a later square.
 fn safe(w: &mut Wires, side: u32, first: u32, squares: u32) -> Option<u64>
     requires { 0 < side }
 {

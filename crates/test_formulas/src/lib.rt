@@ -1,5 +1,5 @@
-//! Formulas on which diagrams are measured and tested, and the tests. `Wires` builds their nets, and checks the number
-//! of each gate that it is given.
+//! Formulas to measure and test diagrams, and the tests. `Wires` builds their nets, and checks that the number of each
+//! gate exists.
 #![tactic(auto)]
 
 #[cfg(test)]

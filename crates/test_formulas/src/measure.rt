@@ -1,4 +1,4 @@
-//! Diagrams of samples, and their paths.
+//! Builds the diagrams of samples, and counts their paths.
 ghost use Rattle.std.specs.Prelude.{IfSome};
 ghost use Rattle.bdd_core.specs.Meaning.{IsDia};
 
@@ -26,7 +26,7 @@ pub fn built(alloc: Global, formula: &Formula) -> Option<(Store, Dia, Dia)>
     }
 }
 
-/// How many paths of at most `depth` steps lead from a diagram to truth.
+/// The number of paths of at most `depth` steps from a diagram to truth.
 pub fn paths(store: &Store, d: Dia, depth: u32) -> u64
     requires { IsDia store.now d }
 {

@@ -60,7 +60,7 @@ impl Wires {
         self.builder.and(a, b).ok()
     }
 
-    /// Whether one of two wires is true.
+    /// Whether at least one of two wires is true.
     pub fn or(&mut self, a: u64, b: u64) -> Option<u64> {
         if !self.has(a) || !self.has(b) {
             return None;

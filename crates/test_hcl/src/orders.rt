@@ -1,4 +1,4 @@
-//! Orders of signals, and the nodes of definitions.
+//! Tests of the orders of signals, and of the nodes of definitions.
 ghost use Rattle.std.specs.Prelude.{◌<◌};
 
 use dp_signals::{constant_words, law_of_tables, pipe_table, seq_table};
@@ -14,7 +14,7 @@ use test_designs::Example;
 const F_PC: &[u8] =
     b"word f_pc = [ M_icode == IJXX && !M_Cnd : M_valA; 0 : 3; M_icode in { IRET, 9 } || 0 : -8; 1 : F_predPC; 1 : 5; ];";
 
-/// A node that asks for the code in a row: one code leads to one target, and each other to another.
+/// A node that asks for the code in a row: one code leads to one target, and all others to another.
 fn code(row: NameId, code: usize, target: u32, other: u32) -> Node
     requires { code < 17 }
 {

@@ -1,4 +1,4 @@
-//! The tree of each form of item and expression.
+//! Tests of the tree of each form of item and expression.
 use hcl_print::print;
 use hcl_read::read;
 use hcl_tree::{Branch, CmpOp, Expr, File, Item, Kind, Text};
@@ -21,7 +21,7 @@ fn two(rt: &HostRuntime, first: Expr, second: Expr) -> Result<Items<Expr>, Fail>
 static FORMS: &[u8] =
     b"quote 'it # is'\nintsig x '' boolsig b 'q'# one\nint w=[b&&!c||d:-8;1:(x);];\nbool t = (a || (b || c)) && a in { 0, x >= 9223372036854775807 };\nbool u = !!a <= -0;";
 
-/// The same in the one form that is printed.
+/// The same in the form that is printed.
 static PRINTED: &[u8] =
     b"quote 'it # is'\nwordsig x ''\nboolsig b 'q'\nword w = [ b && !c || d : -8; 1 : x; ];\nbool t = (a || (b || c)) && a in { 0, x >= 9223372036854775807 };\nbool u = !!a <= 0;\n";
 

@@ -1,4 +1,4 @@
-//! The values of terms: on the evaluator that walks them, and on compiled signals.
+//! Tests of the values of terms: by the evaluator that walks them, and by compiled signals.
 ghost use Rattle.std.specs.Prelude.{◌≡◌};
 ghost use Rattle.dp_signals.specs.PipeTable.{pipe_rows};
 
@@ -81,8 +81,8 @@ static CHOSEN: [(&[u8], u64, u64, u64, u64); 8] = [
     ),
 ];
 
-/// The values of W_bubble, the last row, in a cycle that begins with these values of W_valE, W_valM and M_Cnd: on the evaluator that
-/// walks the terms, and on compiled signals.
+/// The values of W_bubble, the last row, in a cycle that begins with these values of W_valE, W_valM and M_Cnd: by the
+/// evaluator that walks the terms, and by compiled signals.
 fn values(
     rt: &(impl Abort + AllocGlobal),
     table: &Table,

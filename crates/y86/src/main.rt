@@ -1,4 +1,4 @@
-//! The program `y86`: the words of its command line, the files that they name, standard output and standard error.
+//! The program `y86`: its command line, the files, standard output and standard error.
 #![tactic(auto)]
 
 use std::process::ExitCode;

@@ -1,4 +1,4 @@
--- The verdict on a design is one.
+-- A design has one verdict.
 use Rattle.std.proofs.Common.{◌≡◌, ◌⊎◌, ℕ, ◌≤◌, Bool, List, sym, ap, ◌∙◌, subst, inl, inr}
 use Rattle.control_check.specs.PipeVerdicts as pipe
 use Rattle.control_check.proofs.OneSettings.{settings_alike}

@@ -1,4 +1,4 @@
--- Each command's answer is one.
+-- Each command has one answer.
 use Rattle.std.proofs.Common.{◌≡◌, ◌≢◌, ◌⊎◌, inl, inr, None, refl, ℕ, Bool, true, false, List, [], Option, ap, sym, ◌∙◌, subst}
 use Rattle.dp_signals.specs.PipeTable.{pipe_rows}
 use Rattle.dp_signals.proofs.Sound.{pipe_sound, seq_sound}
@@ -36,7 +36,7 @@ use Rattle.y86_answer_laws.proofs.Plans.{after_one, answers_one, gives_one, give
 use Rattle.y86_answer_laws.proofs.Runs.{big_one, pipe_answers_one, seq_answers_one}
 use Rattle.y86_answer_laws.proofs.Sampled.{sample_one}
 
--- ---- without a design
+-- ---- commands without a design
 
 pub yas_plan_one : (source : List ℕ) (size : ℕ) (v : Variant) → HasOneAnswer (yas_plan source size v)
 unfolding yas_plan
@@ -55,7 +55,7 @@ pub aigrun_plan_one : (name : List ℕ) (seed : ℕ) → HasOneAnswer (aigrun_pl
 unfolding aigrun_plan
 aigrun_plan_one name seed = reads_one _ _ _ (λ text. says_one (AigrunAnswers name text seed) (aigrun_one text seed name))
 
--- ---- with one
+-- ---- commands with a design
 
 sound_of : (which : Datapath) → IsSound (rows_of which)
 sound_of Seq = seq_sound
@@ -83,7 +83,7 @@ check_seq_plan_one which name v = reads_one _ _ _ (λ text.
     (λ terms d. let o = design_ordered (rows_of which) text (sound_of which) terms d in
     says_one (SeqChecks which name v terms) (seq_check_one which name v terms o.0 o.1)))
 
--- a plan behind a design for PIPE
+-- a plan after a design for PIPE
 pipe_stage : (name text : List ℕ) (next : List Term → Plan) →
     ((terms : List Term) (ids : List ℕ) → IsBound pipe_rows terms → IsOrderOf pipe_rows terms ids → HasOneAnswer (next terms)) →
     HasOneAnswer (value_in (IsDesign pipe_rows text) (RefusesDesign name pipe_rows text) next)
@@ -129,12 +129,12 @@ unfolding sample_plan
 sample_plan_one name seed count v =
     reads_one _ _ _ (λ text. pipe_stage name text _ (λ terms ids bound o. says_one (SampleAnswers name v terms seed count) (sample_one name v terms ids o seed count)))
 
--- ---- words that are no command
+-- ---- words that form no command
 
 pub no_command_one : HasOneAnswer (plan_in None)
 no_command_one = answers_one _
 
--- ---- one answer but for the text of a yes
+-- ---- one answer, except for the text of a `yes`
 
 yes_stage : (name text : List ℕ) (next : List Term → Plan) → ((terms : List Term) (ids : List ℕ) → IsOrderOf pipe_rows terms ids → HasOneRefusal (next terms)) →
     HasOneRefusal (value_in (IsDesign pipe_rows text) (RefusesDesign name pipe_rows text) next)

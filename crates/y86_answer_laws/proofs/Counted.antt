@@ -1,4 +1,4 @@
--- The counts of an AIGER text are one list.
+-- An AIGER text has one list of counts.
 use Rattle.std.proofs.Common.{◌≡◌, ℕ, ◌<◌, Bool, List, length, get_or, sym, ap, ◌∙◌, subst, inl, inr, arith}
 use Rattle.std.proofs.lemmas.List.{get_or_default, same_lists}
 use Rattle.aiger_out.specs.Form.{IsAag}

@@ -1,4 +1,4 @@
--- The design of a text is one, and so is the refusal of a text without one.
+-- A text has one design, or else one refusal.
 use Rattle.std.proofs.Common.{◌≡◌, ℕ, List, sym, ap, ◌∙◌, subst, inl, inr}
 use Rattle.hcl_read.specs.Read.{ReadsAs}
 use Rattle.hcl_tree.specs.declared.tree.File.{File}

@@ -1,4 +1,4 @@
--- A certificate that was written for a file, checked over the same file.
+-- `recheck` on a certificate that `--cert` wrote for the same file.
 use Rattle.std.proofs.Common.{◌≡◌, ◌≢◌, ◌⊎◌, ℕ, ◌<◌, ◌≤◌, List, [], ◌∷◌, ◌++◌, length, Option, Some, sym, ap, ◌∙◌, subst, inl, inr, lit≤, arith}
 use Rattle.cert_log.specs.Files.{IsCertificate, IsRefused, holds_line}
 use Rattle.cert_checker.specs.Faults.{IsOfGates}
@@ -32,7 +32,7 @@ use Rattle.y86_answer_laws.proofs.Designs.{design_apart, design_one, design_orde
 
 -- ---- what `--cert` wrote
 
--- a text, which was read, has a design, which is accepted at settings, and what was written is a certificate of it at these
+-- a text was read, its design is accepted at settings, and the output is a certificate of the design at these settings
 pub record Written (v : Variant) (text cert : List ℕ) : Type 0 where
   pub short : length text ≤ hcl_limit
   pub terms : List Term
@@ -63,7 +63,7 @@ written_by name v text a (inr (short, inl (terms, design, inr (inl denies)))) no
     let one : a.status ≡ 1 = ap (λ (x : Answer). x.status) denies.told in absurd (omega (arith, one, none))
 written_by name v text a (inr (short, inl (terms, design, inr (inr refuses)))) none = absurd (control_high name pipe_rows terms a refuses (omega (arith, none)))
 
--- what an empty sink has taken is the text that it took
+-- what an empty sink has taken in all is the text that was written to it
 all_taken : (before after : SinkState) (text now : List ℕ) → before.taken ≡ Some [] → after.taken ≡ Some now → Appended before.taken after.taken text → now ≡ text
 all_taken before after text now empty is took =
     let first : Appended (Some []) after.taken text = subst (λ (o : Option (List ℕ)). Appended o after.taken text) empty took in
@@ -79,7 +79,7 @@ module _ (name cert : List ℕ) (v : Variant) (text bytes : List ℕ) (w : Writt
   order : (ids : List ℕ) × IsOrderOf pipe_rows w.terms ids
   order = design_ordered pipe_rows text pipe_sound w.terms w.design
 
-  -- the design is accepted at its settings, and the check came out so
+  -- the design is accepted at its settings, and the check had this outcome
   kept : (out_before out_after err_before err_after : SinkState) (status : ℕ) →
       ((status ≡ 0) × Appended out_before.taken out_after.taken (holds_line w.settings))
       ⊎ ((status ≡ 5) × ((fault : CertFault) × IsOfGates fault.why × (3 ≤ fault.line) × WroteError err_before err_after (cert_fault_line cert fault))) →

@@ -1,4 +1,4 @@
--- Of the valuations of which something holds one is the least.
+-- Among the valuations with a property, the least one is unique.
 use Rattle.std.proofs.Common.{◌≡◌, ◌⊎◌, ℕ, zero, suc, ◌<◌, ◌≤◌, Bool, true, false, List, length, get_or, refl, sym, ◌∙◌, subst, inl, inr, arith}
 use Rattle.std.proofs.lemmas.List.{get_or_default, same_lists}
 use Rattle.hcl_order.proofs.Members.{last_or, le_or}
@@ -20,7 +20,7 @@ same_bools true false h k = sym (h refl)
 same_bools false true h k = k refl
 
 module _ (vars : ℕ) (F : List Bool → Type 0) (w u : List Bool) (h : IsLeastOf vars F w) (k : IsLeastOf vars F u) where
-  -- one place more, where all before it agree
+  -- the same for the next place, if all places before it agree
   one_more : (n : ℕ) → suc n ≤ vars → ((y : ℕ) → y < n → get_or w y false ≡ get_or u y false) → (x : ℕ) → x < suc n → get_or w x false ≡ get_or u x false
   one_more n le before x lt = by (last_or x n lt)
     where

@@ -1,4 +1,4 @@
--- Plans with one answer at most.
+-- Plans with at most one answer.
 use Rattle.std.proofs.Common.{◌≡◌, ◌⊎◌, ℕ, List, [], ◌∷◌, Option, Some, None, Result, Ok, Err, sym, ◌∙◌, subst, inl, inr, arith}
 use Rattle.cli_plans.specs.Plan.{IsAnswerOf, Answer, Plan, value_from, answers, value_in, reads, answer_in}
 use Rattle.y86_answer_laws.specs.OneAnswer.{AreYes, HasOneAnswer, HasOneRefusal}
@@ -21,7 +21,7 @@ read_one name limit next one (Some bytes ∷ rest) a b (inr p) (inr q) = (one by
 pub reads_one : (name : List ℕ) (limit : ℕ) (next : List ℕ → Plan) → ((bytes : List ℕ) → HasOneAnswer (next bytes)) → HasOneAnswer (reads name limit next)
 reads_one name limit next one = record { one = read_one name limit next one }
 
--- a stage of one value or one answer, and not both
+-- a stage with one value or one answer, but not both
 module _ {A : Type 0} (P : A → Type 0) (E : Answer → Type 0) (next : A → Plan) (value : (x y : A) → P x → P y → x ≡ y) (answer : (a b : Answer) → E a → E b → a ≡ b)
     (apart : (x : A) (a : Answer) → P x → E a → ⊥) (one : (x : A) → P x → HasOneAnswer (next x)) where
   stage_one : (contents : List (Option (List ℕ))) (a b : Answer) → IsAnswerOf (value_in P E next) contents a → IsAnswerOf (value_in P E next) contents b → a ≡ b
@@ -38,7 +38,7 @@ unfolding value_from
 after_one stage next one =
     gives_one (λ x. stage ≡ Ok x) (λ a. stage ≡ Err a) next (λ x y p q. cc (p, q)) (λ a b p q. cc (p, q)) (λ x a p q. absurd (cc (p, q))) (λ x p. one x)
 
--- ---- plans with one answer but for a text
+-- ---- plans with one answer, except for a text
 
 pub says_yes : (P : Answer → Type 0) → ((a b : Answer) → P a → P b → (a ≡ b) ⊎ AreYes a b) → HasOneRefusal (answer_in P)
 says_yes P one = record { one = λ contents a b p q. one a b p q }

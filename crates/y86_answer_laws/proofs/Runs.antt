@@ -1,4 +1,4 @@
--- The answer to a run is one.
+-- A run has one answer.
 use Rattle.std.proofs.Common.{◌≡◌, ◌⊎◌, ℕ, zero, suc, ◌<◌, ◌≤◌, Bool, true, List, length, sym, ap, ◌∙◌, subst, inl, inr, arith}
 use Rattle.dp_signals.specs.PipeRun.{PipeHistory, PipeRun}
 use Rattle.dp_signals.specs.PipeTable.{pipe_rows}
@@ -97,7 +97,7 @@ module _ (v : Variant) (terms : List Term) (ids : List ℕ) (bound : IsBound pip
       h.3 ∙ ap (λ n. done (run_status h.1.end) (verdict ++ run_text trace image n h.1)) one.0
       ∙ ap (λ (p : PipeHistory). done (run_status p.end) (verdict ++ run_text trace image k.0 p)) one.1 ∙ sym k.3
 
--- ---- both ways
+-- ---- the instructions and PIPE, as in `big`
 
 module _ (v : Variant) (terms : List Term) (ids : List ℕ) (bound : IsBound pipe_rows terms) (o : IsOrderOf pipe_rows terms ids) (n : ℕ) where
   -- both reports are the same bytes

@@ -1,4 +1,4 @@
--- What a sample answers is one.
+-- A sample has one answer.
 use Rattle.std.proofs.Common.{◌≡◌, ◌⊎◌, ℕ, ◌<◌, ◌≤◌, List, length, sym, ap, ◌∙◌, subst, inl, inr, arith}
 use Rattle.dp_signals.specs.PipeTable.{pipe_rows}
 use Rattle.hcl_order.proofs.Members.{le_or}
@@ -18,7 +18,7 @@ module _ (name : List ℕ) (v : Variant) (terms : List Term) (ids : List ℕ) (o
   abbrev At : List Atom → Settings → ℕ → ℕ → Type 0
   At atoms settings i k = IsFalseAt v atoms (PipeControls terms) settings k (valuation v (length atoms) seed i)
 
-  -- what is false is so at the one list of atoms and the one list of settings
+  -- what is false, is false at the one list of atoms and the one list of settings
   moved : (d e : DrawnOf v terms) (i k : ℕ) → IsFalseDrawn v terms d seed i k → IsFalseDrawn v terms e seed i k
   moved d e i k h =
       subst (λ s. At e.are.atoms s i k) (settings_one name v terms ids ordered d.settings e.settings d.are e.are)
@@ -27,7 +27,7 @@ module _ (name : List ℕ) (v : Variant) (terms : List Term) (ids : List ℕ) (o
   none_or_first : (i r : ℕ) → FindsNone v terms seed count → FindsFirst v terms seed count i r → ⊥
   none_or_first i r h k = h.none i k.within r k.from_one k.to_last (moved k.drawn h.drawn i r k.fails)
 
-  -- none is earlier than the first
+  -- no find is earlier than the first
   no_earlier : (i j r s : ℕ) → FindsFirst v terms seed count i r → FindsFirst v terms seed count j s → i < j → ⊥
   no_earlier i j r s h k lt = k.earlier i lt r h.from_one h.to_last (moved h.drawn k.drawn i r h.fails)
 

@@ -1,4 +1,4 @@
--- A design for SEQ of which an obligation is false isn't accepted.
+-- A design for SEQ for which an obligation is false isn't accepted.
 use Rattle.std.proofs.Common.{ℕ, ◌≤◌, Bool, List, sym, ◌∙◌}
 use Rattle.std.proofs.lemmas.Bool.{false≢true}
 use Rattle.ctl_atoms.specs.declared.leaf.Atom.{Atom}

@@ -1,4 +1,4 @@
--- Plans whose answer is a function of what the files hold.
+-- Plans whose answer is a function of the contents of the files.
 use Rattle.std.specs.Prelude.{◌≡◌, ◌⊎◌, ◌≤◌, ℕ, List, [], Option}
 use Rattle.cert_log.specs.Files.{holds_line}
 use Rattle.cert_checker.specs.Faults.{IsOfGates}
@@ -15,22 +15,22 @@ use Rattle.cli_plans.specs.PlanFollowing.{SinkState}
 use Rattle.cli_plans.specs.Plan.{IsAnswerOf, Answer, Plan}
 use Rattle.cli_plans.specs.Calls.{WroteError}
 
--- whatever the contents of the files are, there is one answer at most
+-- whatever the files contain, there is at most one answer
 pub record HasOneAnswer (plan : Plan) : Type 0 where
   pub one : (contents : List (Option (List ℕ))) (a b : Answer) → IsAnswerOf plan contents a → IsAnswerOf plan contents b → a ≡ b
 
--- two answers have status 0, and nothing on standard error: their texts may differ
+-- two answers with status 0 and nothing on standard error: their texts may differ
 pub record AreYes (a b : Answer) : Type 0 where
   pub first : a.status ≡ 0
   pub second : b.status ≡ 0
   pub quiet : a.err ≡ []
   pub still : b.err ≡ []
 
--- whatever the contents of the files are, there is one answer at most, but for the text of those with status 0
+-- whatever the files contain, there is at most one answer, except for the text of answers with status 0
 pub record HasOneRefusal (plan : Plan) : Type 0 where
   pub one : (contents : List (Option (List ℕ))) (a b : Answer) → IsAnswerOf plan contents a → IsAnswerOf plan contents b → (a ≡ b) ⊎ AreYes a b
 
--- two calls told one and the same answer, which the plan allows for these contents
+-- two calls gave the same answer, which the plan allows for these contents
 pub record SameAnswers (plan : Plan) (contents : List (Option (List ℕ))) (out_before out_after err_before err_after other_before other_after said_before said_after : SinkState)
     (status other : ℕ) : Type 0 where
   pub answer : Answer
@@ -42,8 +42,8 @@ pub record SameAnswers (plan : Plan) (contents : List (Option (List ℕ))) (out_
   pub err : WroteError err_before err_after answer.err
   pub other_err : WroteError said_before said_after answer.err
 
--- A certificate that was written for a file was checked over it: it was accepted, at the settings that the file is accepted at; or it was
--- refused because of the gates of the net, and nothing else.
+-- A certificate that was written for a file was checked for it: it was accepted, at the settings at which the file is
+-- accepted; or it was refused because of the gates of the net, and for no other reason.
 pub record KeptCertificate (v : Variant) (text cert : List ℕ) (out_before out_after err_before err_after : SinkState) (status : ℕ) : Type 0 where
   pub terms : List Term
   pub design : IsDesign pipe_rows text terms

@@ -12,9 +12,9 @@ ghost use Rattle.cli_plans.specs.declared.datapath.Datapath.{Datapath};
 ghost use Rattle.y86_words.specs.Forms.{Command, certify_pipe, form_of, recheck};
 ghost use Rattle.y86_answer_laws.specs.OneAnswer.{HasOneAnswer, HasOneRefusal, KeptCertificate, SameAnswers};
 
-/// Whatever the files of a command hold, its plan allows one answer at most. `aig` and `check pipe` with `--cert` may write any of
-/// many right texts: of these commands all but the text of a yes is one answer. (Of `recheck` it isn't so: two calls may make
-/// two nets of one file, and a certificate of one of them is none of the other.)
+/// Whatever the files of a command contain, its plan allows at most one answer. `aig` and `check pipe` with `--cert`
+/// may write any of many right texts: all their answers but the text of a `yes` are unique. (`recheck` is excepted: two
+/// of its calls may make two nets of one file, and a certificate for one net is none for the other.)
 pub fn law_of_one_answer()
     ensures yas { (source : List ℕ) (size : ℕ) (v : Variant) → HasOneAnswer (yas_plan source size v) }
     ensures yis { (object : List ℕ) (size limit : ℕ) (v : Variant) → HasOneAnswer (yis_plan object size limit v) }
@@ -32,9 +32,9 @@ pub fn law_of_one_answer()
     ensures aigrun { (name : List ℕ) (seed : ℕ) → HasOneAnswer (aigrun_plan name seed) }
 {}
 
-/// Two calls of a command whose plan has one answer at most, on files that tell the same contents, end with the same status and tell
-/// the same text and the same line on standard error, unless one of them ends with 3, 4 or 6; and these are what the plan
-/// allows for the contents.
+/// Two calls of a command whose plan has at most one answer, on files with the same known contents, end with the same
+/// status and print the same text and the same line on standard error, unless one of them ends with 3, 4 or 6; and
+/// these are what the plan allows for the contents.
 pub fn law_of_calls()
     ensures { (form : Option Command) → HasOneAnswer (plan_in form) → (files_before files_after others_before others_after : FilesState)
         (out_before out_after err_before err_after out_before2 out_after2 err_before2 err_after2 : SinkState) (status other : ℕ) →
@@ -45,8 +45,9 @@ pub fn law_of_calls()
         SameAnswers (plan_in form) contents out_before out_after err_before err_after out_before2 out_after2 err_before2 err_after2 status other }
 {}
 
-/// What `check pipe` with `--cert` wrote for a file, `recheck` accepts over the same file at the same settings, or refuses it
-/// because of the gates of the net alone, unless it ends with 3, 4 or 6: the form, each number and each claim are right.
+/// What `check pipe` with `--cert` wrote for a file, `recheck` accepts for the same file, at the same settings; or it
+/// refuses only because of the gates of the net, or ends with 3, 4 or 6. So the form, each number and each claim are
+/// right.
 pub fn law_of_own_certificates()
     ensures { (words others : List (List ℕ)) (name cert : List ℕ) (v : Variant) (text bytes : List ℕ)
         (files_before files_after later_before later_after : FilesState)

@@ -1,4 +1,4 @@
--- What the answers of `check`, and of `psim` behind a check, say of the run of instructions.
+-- What the answers of `check`, and of `psim` after a check, mean for the run of instructions.
 use Rattle.std.proofs.Common.{◌≡◌, ◌⊎◌, codes, ℕ, zero, suc, ◌≤◌, Bool, true, List, ◌++◌, length, refl, sym, ap, subst, ◌∙◌, inl, inr, Option, Some, Result, Ok, Err, lit≤, arith}
 use Rattle.dp_signals.specs.PipeRun.{PipeHistory, PipeRun}
 use Rattle.dp_signals.specs.PipeTable.{pipe_rows}
@@ -135,7 +135,7 @@ check_plus_accepts name v files_before files_after out_before out_after err_befo
     let given = ran.answer (λ three. omega (arith, three)) (λ six. omega (arith, six)) in
     check_seq_says Plus name v given.0 files_before out_before out_after err_before err_after given.1.by_some given.2
 
--- ---- `psim` behind a check
+-- ---- `psim` after a check
 
 abbrev Told : (v : Variant) (size limit : ℕ) (trace : Bool) (hcl object : Option (Option (List ℕ))) (early late : SinkState) (status : ℕ) → Type 0
 Told v size limit trace hcl object early late status =
@@ -208,7 +208,7 @@ psim_agrees name object size limit trace v files_before files_after out_before o
     psim_told files_before.told name object size limit trace v out_before out_after status given.0 sized is (omega (arith, is, low))
     (given.2.out (λ four. omega (arith, four, low))) given.1.by_some
 
--- ---- the same of the words of a call
+-- ---- the same for the words of a call
 
 pub accepting_seq_words : (words : List (List ℕ)) (name : List ℕ) (v : Variant) (files_before files_after : FilesState) (out_before out_after err_before err_after : SinkState) →
     form_of words ≡ Some (check_seq name v) → CallContract (form_of words) files_before files_after out_before out_after err_before err_after 0 →
@@ -228,7 +228,7 @@ pub accepting_words : (words : List (List ℕ)) (name : List ℕ) (v : Variant) 
 accepting_words words name v files_before files_after out_before out_after err_before err_after is ran =
     check_accepts name v files_before files_after out_before out_after err_before err_after (rw is at ran)
 
--- words that are a command say a size of memory
+-- words that form a command contain a size of memory
 pub agreeing_words : (words : List (List ℕ)) (name object : List ℕ) (size limit : ℕ) (trace : Bool) (v : Variant) (files_before files_after : FilesState)
     (out_before out_after err_before err_after : SinkState) (status : ℕ) → form_of words ≡ Some (psim name object size limit trace true v) → status ≤ 1 →
     CallContract (form_of words) files_before files_after out_before out_after err_before err_after status →

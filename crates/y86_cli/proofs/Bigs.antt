@@ -1,4 +1,4 @@
--- What `big` answers of an accepted file.
+-- What `big` answers for an accepted file.
 use Rattle.std.proofs.Common.{◌≡◌, ◌≢◌, inl, inr, ℕ, ◌+◌, ◌≤◌, true, List, [], ◌∷◌, length, Option, Some, None, IfSome, refl, sym, ap, subst, ◌∙◌, Result, Ok, arith}
 use Rattle.wb_io.specs.Files.{HasBytes, HasMore}
 use Rattle.wb_io.specs.Sinks.{Appended}
@@ -54,7 +54,7 @@ not_refused name rows text terms a d (inr (inr unordered)) =
     let same : terms ≡ unordered.terms = cc (d.binds, one, unordered.binds) in
     a_cycle (needs_of (needs rows unordered.terms)) unordered.cycle unordered.first (subst (λ (x : List Term). (n : ℕ) → Depends (needs_of (needs rows x)) n n → ⊥) same d.acyclic)
 
--- ---- `big` of an accepted file
+-- ---- `big` for an accepted file
 
 pub record Alike (n : ℕ) (a : Answer) : Type 0 where
   pub both : CosimResult

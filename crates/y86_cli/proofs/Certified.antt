@@ -1,4 +1,4 @@
--- What an answer to `check pipe` with `--cert`, or to `recheck`, says of the run of instructions.
+-- What an answer to `check pipe` with `--cert`, or to `recheck`, means for the run of instructions.
 use Rattle.std.proofs.Common.{◌≡◌, ◌⊎◌, ℕ, ◌≤◌, List, length, refl, sym, ap, subst, inl, inr, Option, Some, lit≤, arith}
 use Rattle.cert_log.specs.Files.{IsCertificate, holds_line}
 use Rattle.dp_signals.specs.PipeTable.{pipe_rows}
@@ -16,7 +16,7 @@ use Rattle.cli_plans.specs.Plan.{Answer, MayBeAnswer, done, refused}
 use Rattle.y86_cli.specs.CallContract.{CallContract}
 use Rattle.y86_cli.proofs.Agreement.{control_high, design_high, high}
 
--- ---- what an answer with status 0 says
+-- ---- what an answer with status 0 means
 
 certify_told : (told : List ℕ → Option (Option (List ℕ))) (name : List ℕ) (v : Variant) (a : Answer) → MayBeAnswer told (certify_pipe_plan name v) a → a.status ≡ 0 →
     (file : HasAccepted v (told name)) × (text : List ℕ) × IsCertificate v file.terms file.settings text × (a.out ≡ text)
@@ -44,7 +44,7 @@ certify_accepts name v files_before files_after out_before out_after err_before 
 
 -- ---- the answers of `recheck`
 
--- a refusal, with a status from 2 on
+-- a refusal, with a status of at least 2
 pub record IsRefusal (a : Answer) : Type 0 where
   pub status : ℕ
   pub line : List ℕ
@@ -63,7 +63,7 @@ control_refusal : (name : List ℕ) (terms : List Term) (a : Answer) → Refuses
 control_refusal name terms a (inl mixed) = refusal a 5 _ (lit≤ tt) mixed.told
 control_refusal name terms a (inr over) = refusal a 5 _ (lit≤ tt) over.told
 
--- `recheck` tells an accepted certificate, or refuses
+-- `recheck` reports that it accepts the certificate, or refuses
 abbrev pub Rechecked : Variant → Option (Option (List ℕ)) → Option (Option (List ℕ)) → Answer → Type 0
 Rechecked v told told_cert a = ((file : HasCertified v told told_cert) × (a ≡ done 0 (holds_line file.settings))) ⊎ IsRefusal a
 

@@ -1,4 +1,4 @@
--- Plans: the answer of a determined one is a function of the contents, and what each answer has.
+-- Plans: the answer of a determined plan is a function of the contents, and what all answers have in common.
 use Rattle.std.proofs.Common.{◌≡◌, ◌⊎◌, ◌↔◌, ◌≢◌, ℕ, ◌<◌, ◌≤◌, Bool, true, false, cond, ◌&&◌, ltb, List, [], ◌∷◌, length, refl, sym, subst, inl, inr, Option, Some, None, Result, Ok, Err, lit≤, arith}
 use Rattle.std.proofs.lemmas.Bool.{ltb-true, ltb-false}
 use Rattle.wb_io.specs.Sinks.{Appended, AppendedPrefix}
@@ -91,7 +91,7 @@ pub yis_one : (object : List ℕ) (size limit : ℕ) (v : Variant) → IsDetermi
 unfolding yis_plan
 yis_one object size limit v = reads_one _ _ _ (λ bytes. after_one _ _ (λ image. answers_one _))
 
--- ---- what the calls give of a determined plan
+-- ---- what the calls of a determined plan answer
 
 pub told_one : (form : Option Command) (one : IsDetermined (plan_in form)) (files_before files_after : FilesState)
     (out_before out_after err_before err_after : SinkState) (status : ℕ) →
@@ -117,13 +117,13 @@ part_one form one files_before files_after out_before out_after err_before err_a
     let P : Answer → Type 0 = λ a. AppendedPrefix out_before.taken out_after.taken a.out in
     subst P same (given.2.part four)
 
--- ---- what each answer has
+-- ---- what all answers have in common
 
 -- done, with nothing on standard error; or refused, with nothing on standard output
 abbrev IsProper : Answer → Type 0
 IsProper a = ((a.status ≤ 1) × (a.err ≡ [])) ⊎ ((3 ≤ a.status) × (a.status ≤ 7) × (a.out ≡ []))
 
--- all that a plan may say is proper
+-- all answers of a plan are proper
 AllProper : Plan → Type 0
 AllProper (answer_in P) = (a : Answer) → P a → IsProper a
 AllProper (reads name limit next) = (bytes : List ℕ) → AllProper (next bytes)

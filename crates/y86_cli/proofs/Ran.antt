@@ -1,4 +1,4 @@
--- The clauses of the whole program, from what the code did: once for all commands.
+-- The clauses of the contract of a whole call, from what the code did: once for all commands.
 use Rattle.std.proofs.Common.{◌≡◌, ◌≢◌, ◌⊎◌, ℕ, ◌≤◌, List, [], refl, sym, ap, subst, inl, inr, Option, Some, None, Result, Ok, Err, lit≤, arith, ◌∙◌}
 use Rattle.wb_io.specs.Causes.{counted}
 use Rattle.wb_io.specs.Sinks.{Appended}
@@ -50,7 +50,7 @@ line_of_memory (Refused name why) e = absurd (cc)
 line_of_memory Memory e = refl
 line_of_memory (TooLong name limit) e = absurd (cc)
 
--- ---- a call that doesn't end with a failed read comes without one
+-- ---- in a call that doesn't end with a failed read, no read failed
 
 abbrev EndsElse : Result ℕ code.StopReason → Type 0
 EndsElse (Ok status) = Unit {0}
@@ -97,7 +97,7 @@ told_quiet err text e =
 took_same : (before after : SinkState) → after ≡ before → Appended before.taken after.taken []
 took_same before after same = let P : SinkState → Type 0 = λ x. Appended before.taken x.taken [] in subst P (sym same) (took_nothing before.taken)
 
--- ---- a command that ended with a stop, by what came of its plan
+-- ---- a command that ended with a stop, by the outcome of its plan
 
 stop_answer : (plan : Plan) (files_before files_after : FilesState) (before after err_before err_after : SinkState) (stop : code.StopReason) →
     CallOutcome plan files_before files_after before after (Err stop) → WroteError err_before err_after (line_of stop) → status_of stop ≢ 3 → status_of stop ≢ 6 →
@@ -201,7 +201,7 @@ usage_ran files_before files_after before after err_before err_after files same 
   complete = λ contents tells faultless three four. inr (faultless (refused 2 usage_line) refl);
 }
 
--- ---- a command that was done
+-- ---- a command that was carried out
 
 done_shows : (plan : Plan) (files_before files_after : FilesState) (before after err : SinkState) (status : ℕ) →
     CallOutcome plan files_before files_after before after (Ok status) →
@@ -257,7 +257,7 @@ pub ran_stopped : (form : Option Command) (files_before files_after : FilesState
 ran_stopped form files_before files_after before after err_before err_after stop status e s told silent =
     rw s (stopped form files_before files_after before after err_before err_after stop e told silent)
 
--- the words are no command
+-- the words form no command
 pub no_command : (form : Option Command) (files : FilesState) (seen : SinkState) → form ≡ None → CommandOutcome form files files seen seen (Err Usage)
 unfolding CommandOutcome
 no_command form files seen none = rw none (refl, refl, refl)

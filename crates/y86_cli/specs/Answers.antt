@@ -25,7 +25,7 @@ plan_of (aigrun name seed) = aigrun_plan name seed
 plan_of (sample name seed count v) = sample_plan name seed count v
 plan_of (big n name v) = big_plan n name v
 
--- the plan of words that are a command or none
+-- the plan of the command that words form, or of the usage line
 abbrev pub plan_in : Option Command → Plan
 plan_in None = answers (refused 2 usage_line)
 plan_in (Some command) = plan_of command

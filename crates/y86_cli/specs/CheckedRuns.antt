@@ -1,4 +1,4 @@
--- What an answer to `check`, or to `psim` behind a check, says of the run of instructions.
+-- What an answer to `check`, or to `psim` after a check, means for the run of instructions.
 use Rattle.std.specs.Prelude.{◌≡◌, ℕ, codes, Bool, true, List, ◌++◌, length, Option, Ok}
 use Rattle.cert_log.specs.Files.{IsCertificate, holds_line}
 use Rattle.control_check.specs.PipeVerdicts.{AcceptsPipe, RefinesPipe}
@@ -26,9 +26,10 @@ use Rattle.cli_plans.specs.Plan.{Answer}
 use Rattle.cli_runs.specs.PipeRuns.{RunsTo, end_of, run_text}
 use Rattle.cli_plans.specs.declared.datapath.Datapath.{Datapath}
 
--- A file with an accepted design: the bytes that are told of it, if any, are the text; the text is read, bound and ordered; every
--- obligation holds of the design at its settings. So on every image whose instructions fetch no byte that one of the three before
--- them stored, its pipeline is after each number of cycles where the instructions are.
+-- A file with an accepted design: what is known of its bytes, if anything, is that they are the text; the text is read,
+-- bound and ordered; the design satisfies every obligation at its settings. So on every image whose instructions fetch
+-- no byte that one of the three before them stored, its pipeline agrees with the run of instructions after each number
+-- of cycles.
 pub record HasAccepted (v : Variant) (told : Option (Option (List ℕ))) : Type 0 where
   pub text : List ℕ
   pub has : HasBytes told text
@@ -38,7 +39,8 @@ pub record HasAccepted (v : Variant) (told : Option (Option (List ℕ))) : Type 
   pub accepted : AcceptsPipe v terms settings
   pub refines : RefinesPipe v terms
 
--- The same for a sequential datapath: on every image its machine is after each number of cycles that of the run of instructions.
+-- The same for a sequential datapath: on every image its machine is that of the run of instructions after each number
+-- of cycles.
 pub record HasAcceptedSeq (which : Datapath) (v : Variant) (told : Option (Option (List ℕ))) : Type 0 where
   pub text : List ℕ
   pub has : HasBytes told text
@@ -47,7 +49,7 @@ pub record HasAcceptedSeq (which : Datapath) (v : Variant) (told : Option (Optio
   pub accepted : Accepts which v terms
   pub refines : RefinesRun which v terms
 
--- Such a file was accepted, and its settings were printed: the text on standard output is the line of a Yes.
+-- An accepted file, whose settings were printed: the text on standard output is the line of a `yes`.
 pub record ToldAccepted (v : Variant) (told : Option (Option (List ℕ))) (before after : SinkState) : Type 0 where
   pub file : HasAccepted v told
   pub line : Appended before.taken after.taken (pipe_yes file.settings)
@@ -56,33 +58,36 @@ pub record ToldAcceptedSeq (which : Datapath) (v : Variant) (told : Option (Opti
   pub file : HasAcceptedSeq which v told
   pub line : Appended before.taken after.taken (codes "yes\n")
 
--- Such a file was accepted, and a certificate of its design at its settings went to standard output.
+-- An accepted file, and a certificate of its design at its settings was written on standard output.
 pub record WroteCertificate (v : Variant) (told : Option (Option (List ℕ))) (before after : SinkState) : Type 0 where
   pub file : HasAccepted v told
   pub text : List ℕ
   pub certificate : IsCertificate v file.terms file.settings text
   pub went : Appended before.taken after.taken text
 
--- A certificate of a file was accepted, and its settings were printed: the text on standard output is the line that has them.
+-- A certificate of a file was accepted, and its settings were printed: the text on standard output is the line with
+-- them.
 pub record ToldCertified (v : Variant) (told told_cert : Option (Option (List ℕ))) (before after : SinkState) : Type 0 where
   pub file : HasCertified v told told_cert
   pub line : Appended before.taken after.taken (holds_line file.settings)
 
--- The same where a write on standard output failed: a proper prefix of the line went out.
+-- The same if a write on standard output failed: a proper prefix of the line was written.
 pub record ToldCertifiedPart (v : Variant) (told told_cert : Option (Option (List ℕ))) (before after : SinkState) : Type 0 where
   pub file : HasCertified v told told_cert
   pub part : AppendedPrefix before.taken after.taken (holds_line file.settings)
 
--- What is printed of a pipeline that has retired r instructions is of the run of these: the lines of the trace are of its records,
--- those of the registers of its registers; and where the pipeline has stopped, the whole report is of its machine.
+-- The output for a pipeline that has retired r instructions agrees with the run of these: the trace has the lines of
+-- their records, and the lines of the registers are those of their registers; and if the pipeline has stopped, the
+-- whole report is that of their machine.
 pub record PrintsTheRun (v : Variant) (image : List ℕ) (trace : Bool) (p : PipeHistory) : Type 0 where
   pub trace_lines : traced trace p.records ≡ traced trace (records v image (length p.records))
   pub lines_of_registers : register_lines p.state.regs ≡ register_lines (run v image (length p.records)).regs
   pub whole_report : ended_by_status p.end ≡ true →
       report image (end_of p) (length p.records) ≡ report image (run v image (length p.records)) (length p.records)
 
--- A file was accepted, and an image ran on it: behind the Yes stand the trace, the counts and the report. They agree with the run of
--- instructions where none of the first ones, as many as there were cycles, fetches a byte that one of the three before it stored.
+-- A file was accepted, and an image ran on it: after the `yes` come the trace, the counts and the report. They agree
+-- with the run of instructions if none of the first instructions, one for each cycle, fetches a byte that one of the
+-- three before it stored.
 pub record CheckedRunIsRight (v : Variant) (size limit : ℕ) (trace : Bool) (hcl object : Option (Option (List ℕ))) (before after : SinkState) (status : ℕ) : Type 0 where
   pub file : HasAccepted v hcl
   pub bytes : List ℕ
@@ -96,7 +101,7 @@ pub record CheckedRunIsRight (v : Variant) (size limit : ℕ) (trace : Bool) (hc
   pub told : Appended before.taken after.taken (pipe_yes file.settings ++ run_text trace image cycles end)
   pub agrees : NearPure v image cycles → PrintsTheRun v image trace end
 
--- A file was refused, and nothing ran: the No was printed.
+-- A file was refused, and nothing ran: the `no` was printed.
 pub record AnsweredNo (v : Variant) (hcl : Option (Option (List ℕ))) (before after : SinkState) (status : ℕ) : Type 0 where
   pub text : List ℕ
   pub has : HasBytes hcl text

@@ -1,4 +1,4 @@
-//! The top call on the words as the system gives them, the program's own name first.
+//! The top call, on the words as the system passes them, the program's own name first.
 ghost use Rattle.std.specs.Prelude.{◌≡◌, ◌↔◌, None, IfErr, IfOk};
 ghost use Rattle.std.specs.IoError.{error_kind};
 ghost use Rattle.cli_plans.specs.Calls.{words_behind};
@@ -15,7 +15,7 @@ use std::io::ErrorKind;
 use wb_io::{Files, Sink};
 
 #[tactic(auto, using(crate::proofs::Ran::memory_ran))]
-/// Does what the words of a call say, the program's own name first among them, over any files and sinks. Gives the
+/// Does what the words of a call say, over any files and sinks. The first word is the program's own name. Returns the
 /// status that the program ends with.
 pub fn call<F: Files, O: Sink, E: Sink>(
     alloc: Global,
@@ -27,7 +27,7 @@ pub fn call<F: Files, O: Sink, E: Sink>(
     ensures ran { IfOk args (λ read. CallContract (form_of (words_behind read)) (files_state (F.told files.old) (F.faults files.old)) (files_state (F.told files.new) (F.faults files.new))
         (sink_state (O.taken out.old) (O.faults out.old)) (sink_state (O.taken out.new) (O.faults out.new))
         (sink_state (E.taken err.old) (E.faults err.old)) (sink_state (E.taken err.new) (E.faults err.new)) result) }
-    // Words that can't be read are no command.
+    // Words that can't be read form no command.
     ensures unread { IfErr args (λ error. CallContract None (files_state (F.told files.old) (F.faults files.old)) (files_state (F.told files.new) (F.faults files.new))
         (sink_state (O.taken out.old) (O.faults out.old)) (sink_state (O.taken out.new) (O.faults out.new))
         (sink_state (E.taken err.old) (E.faults err.old)) (sink_state (E.taken err.new) (E.faults err.new)) result) }

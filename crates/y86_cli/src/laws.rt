@@ -13,8 +13,9 @@ ghost use Rattle.cli_plans.specs.Plan.{Answer, IsAnswerOf, IsDetermined, HasCont
 ghost use Rattle.y86_cli.specs.CallContract.{CallContract};
 ghost use Rattle.cli_plans.specs.Calls.{WroteError};
 
-/// What an answer has, whatever the contents of the files. With 0 and 1 nothing is to be told on standard error; with every
-/// other status nothing goes to standard output. 2 comes exactly where the words are no command, and no status is over 7.
+/// What all answers have in common, whatever the contents of the files. With status 0 and 1 there is nothing for
+/// standard error; with every other status nothing is written on standard output. The status is 2 exactly if the words
+/// form no command, and at most 7.
 pub fn law_of_answers()
     ensures done { (form : Option Command) (contents : List (Option (List ℕ))) (a : Answer) → IsAnswerOf (plan_in form) contents a → a.status ≤ 1 → a.err ≡ [] }
     ensures refused { (form : Option Command) (contents : List (Option (List ℕ))) (a : Answer) → IsAnswerOf (plan_in form) contents a → 2 ≤ a.status → a.out ≡ [] }
@@ -22,8 +23,9 @@ pub fn law_of_answers()
     ensures at_most_seven { (form : Option Command) (contents : List (Option (List ℕ))) (a : Answer) → IsAnswerOf (plan_in form) contents a → a.status ≤ 7 }
 {}
 
-/// Where a plan has just one answer, as those of `yas` and `yis` have, it is a function of the contents of the files: where the
-/// files tell their contents, a call gives that answer, or ends with 3, 4 or 6; with 4 a proper prefix of its text goes out.
+/// If a plan has just one answer, as those of `yas` and `yis` have, it is a function of the contents of the files: if
+/// the contents are known, a call gives this answer, or ends with 3, 4 or 6; with 4 it writes a proper prefix of the
+/// answer's text.
 pub fn law_of_plans()
     ensures yas { (source : List ℕ) (size : ℕ) (v : Variant) → IsDetermined (yas_plan source size v) }
     ensures yis { (object : List ℕ) (size limit : ℕ) (v : Variant) → IsDetermined (yis_plan object size limit v) }
@@ -41,16 +43,19 @@ pub fn law_of_plans()
         AppendedPrefix out_before.taken out_after.taken (one.just_one contents).0.out }
 {}
 
-/// What an accepted file means for a user of the program, from the words of a call and what `run` says of it. Where a call
-/// of `check seq` or of `check seqplus` ends with 0, the file has an accepted design, and on every image its machine is that
-/// of the run of instructions. Where a call of `check pipe` ends with 0, the file has an accepted design, and on every image whose
-/// instructions fetch no byte that one of the three before them stored its pipeline retires the instructions of that run, one after
-/// another, and stops as it does; with `--cert` too, and there a certificate of the design went to standard output, and
-/// without it the line of a Yes. Where a call of `recheck` ends with 0, the second file is a certificate of the first, the
-/// pipeline of its design does the same, and the line with the certificate's settings went out. With 4 it is so too, and
-/// a part of the line went out; `recheck` never ends with 1. Where a call of `psim` with `--checked` ends with 0 or 1, the
-/// text on standard output is a No; or it is a Yes of such a file, and what stands behind it agrees with the run of
-/// instructions: the trace, the registers, and where the pipeline stopped the whole report.
+/// What an accepted file means for a user of the program, by the words of a call and the contract of `run`.
+///
+/// - If a call of `check seq` or `check seqplus` ends with 0, the file has an accepted design, and on every image its
+///   machine is that of the run of instructions.
+/// - If a call of `check pipe` ends with 0, the file has an accepted design. On every image whose instructions fetch no
+///   byte that one of the three before them stored, its pipeline retires the instructions of that run, one after
+///   another, and stops as it does. The output is the line of a `yes` or, with `--cert`, a certificate of the design.
+/// - If a call of `recheck` ends with 0, the second file is a certificate of the first, the pipeline of its design does
+///   the same, and the line with the certificate's settings was written. With 4 the same holds, and a part of the line
+///   was written. `recheck` never ends with 1.
+/// - If a call of `psim` with `--checked` ends with 0 or 1, the output is a `no`; or it is a `yes` for an accepted
+///   file, and what follows it agrees with the run of instructions: the trace, the registers, and, if the pipeline
+///   stopped, the whole report.
 pub fn law_of_accepted_files()
     ensures check_seq { (words : List (List ℕ)) (name : List ℕ) (v : Variant) (files_before files_after : FilesState) (out_before out_after err_before err_after : SinkState) →
         form_of words ≡ Some (check_seq name v) → CallContract (form_of words) files_before files_after out_before out_after err_before err_after 0 →
@@ -79,8 +84,8 @@ pub fn law_of_accepted_files()
         ⊎ AnsweredNo v (files_before.told name) out_before out_after status }
 {}
 
-/// Of an accepted file, of the length that is read, `big` answers that both runs came to the same report, n + 1 steps and at most
-/// 5(n + 1) cycles, with status 0; but for a failed read, a failed write and out of memory.
+/// For an accepted file within the limit on its length, `big` answers with status 0 that both runs gave the same
+/// report, in n + 1 steps and at most 5(n + 1) cycles, except if a read or a write failed or memory was out.
 pub fn law_of_big()
     ensures { (words : List (List ℕ)) (n : ℕ) (name : List ℕ) (v : Variant) (files_before files_after : FilesState)
         (out_before out_after err_before err_after : SinkState) (status : ℕ) (text : List ℕ) → form_of words ≡ Some (big n name v) →

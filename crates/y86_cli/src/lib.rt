@@ -1,4 +1,4 @@
-//! `y86` over any files and sinks: does the command that the arguments name. Contracts say what a whole call does.
+//! `y86` over any files and sinks: does the command that the arguments name. Its contracts specify whole calls.
 #![tactic(auto)]
 
 mod calling;

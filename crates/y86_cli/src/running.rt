@@ -1,4 +1,4 @@
-//! The top call: does the command that the words are, and answers the status.
+//! The top call: does the command that the words form, and returns the status.
 ghost use Rattle.std.specs.Prelude.{◌≡◌, None, map, string_bytes};
 ghost use Rattle.cli_plans.specs.PlanFollowing.{FollowsPlanOver, files_state, sink_state};
 ghost use Rattle.y86_cli.specs.Answers.{plan_of};
@@ -153,8 +153,8 @@ fn outcome<'a, F: Files, O: Sink>(
     }
 }
 
-/// The program: does the command that the words behind the program's name are, over any files and sinks, and answers the
-/// status that the program ends with.
+/// The program: does the command that the words after the program's name form, over any files and sinks, and returns
+/// the status that the program ends with.
 #[tactic(auto, using(crate::proofs::Ran::ran_done, crate::proofs::Ran::ran_stopped, crate::proofs::Ran::usage_where, crate::proofs::Ran::usage_done))]
 pub fn run<F: Files, O: Sink, E: Sink>(
     alloc: Global,
@@ -167,7 +167,7 @@ pub fn run<F: Files, O: Sink, E: Sink>(
         (files_state (F.told files.old) (F.faults files.old)) (files_state (F.told files.new) (F.faults files.new))
         (sink_state (O.taken out.old) (O.faults out.old)) (sink_state (O.taken out.new) (O.faults out.new))
         (sink_state (E.taken err.old) (E.faults err.old)) (sink_state (E.taken err.new) (E.faults err.new)) result }
-    // 2 comes wherever the words are no command.
+    // The status is 2 whenever the words form no command.
     ensures usage { form_of (map string_bytes words.now) ≡ None → result ≡ 2 }
 {
     match outcome(alloc, words, files, out) {

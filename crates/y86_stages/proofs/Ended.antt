@@ -1,4 +1,4 @@
--- How a call ends.
+-- How a call ends, from what the code did.
 use Rattle.std.proofs.Common.{◌≡◌, ℕ, Option, Some, None, Result, Ok, Err, inl, inr, refl, subst}
 use Rattle.cli_plans.specs.PlanFollowing.{FilesState, SinkState}
 use Rattle.cli_plans.specs.Calls.{WroteError}
@@ -19,7 +19,7 @@ module _ (said : Option Scanned) (files_before files_after : FilesState) (out_be
   unfolding CallEndsAs
   some_ends r result ends = ends
 
-  -- the words have no form
+  -- the words aren't valid
   pub called_usage : None ≡ said → files_after ≡ files_before → out_after ≡ out_before → status ≡ 2 → WroteError err_before err_after (stop_line Usage) →
       ShowContract said files_before files_after out_before out_after err_before err_after status
   called_usage e files out two told =

@@ -1,4 +1,4 @@
--- What is shown of a run is one of the answers.
+-- What the program shows of a run is one of the answers.
 use Rattle.std.proofs.Common.{◌≡◌, ℕ, List, Option, refl, Result}
 use Rattle.hcl_types.specs.declared.term.Term.{Term}
 use Rattle.pipe_stage_text.specs.declared.observer.CycleRange.{CycleRange}

@@ -1,4 +1,4 @@
--- The words of a call: those of `psim`, and among them the options that say what is shown.
+-- The words of a call: those of `psim`, and among them the options that select what is shown.
 use Rattle.std.specs.Prelude.{◌≡◌, ℕ, Bool, true, false, not, ◌&&◌, ◌||◌, if◌then◌else◌, List, [], ◌∷◌, ◌++◌, map, codes, string_bytes, Option, Some, None, is_none, is_some, unwrap_or, option_and_then}
 use Rattle.std.specs.Option.{option_map}
 use Rattle.std.specs.Str.{bytes_eq}
@@ -10,7 +10,7 @@ use Rattle.y86_stages.specs.declared.reading.Processor.{Processor}
 use Rattle.y86_stages.specs.declared.reading.Processor.TheVariants.{Pipe, Seq, SeqPlus}
 use Rattle.y86_stages.specs.declared.reading.ScannedArguments as code
 
--- what was read: the words of `psim`, its name first, what the options say, and an option whose number is the next word
+-- what was read: the words of `psim`, beginning with its name, the options, and an option whose number is the next word
 pub record Scanned : Type 0 where
   pub words : List (List ℕ)
   pub processor : Processor
@@ -26,7 +26,7 @@ read_in r = record { words = map string_bytes r.words.items; processor = r.proce
 abbrev pub first_read : Scanned
 first_read = record { words = codes "psim" ∷ []; processor = Pipe; diagram = false; from = None; to = None; wants = None }
 
--- the option that a word is
+-- the option with this name
 abbrev pub own_of : List ℕ → Option ShowOption
 own_of word =
     if bytes_eq word (codes "--diagram") then Some Diagram
@@ -56,7 +56,7 @@ is_pipe Pipe = true
 is_pipe Seq = false
 is_pipe SeqPlus = false
 
--- an option stands at most once, and so does a processor
+-- an option is given at most once, and so is a processor
 abbrev pub with_option : Scanned → ShowOption → Option Scanned
 with_option r Diagram = if r.diagram then None else Some (record r { diagram = true })
 with_option r From = if is_some r.from then None else Some (record r { wants = Some From })
@@ -75,11 +75,11 @@ abbrev pub with_next : Scanned → List ℕ → Option ShowOption → Option Sca
 with_next r word None = with_word r word (own_of word)
 with_next r word (Some own) = option_map (λ n. with_number r own n) (cycle_number word)
 
--- one more word
+-- reads another word
 unfoldable pub read_word : Scanned → List ℕ → Option Scanned
 read_word r word = with_next r word r.wants
 
--- what the next word was read as, or that it may not stand there
+-- the next word was read as the option's number, or isn't a number
 abbrev pub ScansNumber : Scanned → ShowOption → List ℕ → Bool → Scanned → Type 0
 ScansNumber old own word true new = option_map (λ n. with_number old own n) (cycle_number word) ≡ Some new
 ScansNumber old own word false new = cycle_number word ≡ None
@@ -92,7 +92,7 @@ abbrev pub Scans : Scanned → List ℕ → Bool → Scanned → Type 0
 Scans old word true new = read_word old word ≡ Some new
 Scans old word false new = read_word old word ≡ None
 
--- there is a diagram of PIPE alone
+-- no option waits for its number, and only PIPE has a diagram
 abbrev pub whole : Scanned → Option Scanned
 whole r = if is_none r.wants && (is_pipe r.processor || not r.diagram) then Some r else None
 
@@ -100,10 +100,10 @@ unfoldable pub all_read : Scanned → List (List ℕ) → Option Scanned
 all_read r [] = whole r
 all_read r (word ∷ rest) = option_and_then (λ q. all_read q rest) (read_word r word)
 
--- what some words say, if they have a form
+-- what words mean, if they are valid
 abbrev pub read_of : List (List ℕ) → Option Scanned
 read_of words = all_read first_read words
 
--- what is shown: all cycles where the options don't say which
+-- the cycles that are shown: all, unless the options limit them
 abbrev pub window_of : Scanned → CycleRange
 window_of r = record { from = unwrap_or r.from 1; to = unwrap_or r.to most_cycle; diagram = r.diagram }

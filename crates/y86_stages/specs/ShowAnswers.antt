@@ -1,4 +1,4 @@
--- What is shown of a run, as an answer, and the plan of a call.
+-- What the program shows of a run, as an answer, and the plan of a call.
 use Rattle.std.specs.Prelude.{◌≡◌, ℕ, List, Option}
 use Rattle.dp_signals.specs.PipeTable.{pipe_rows}
 use Rattle.dp_signals.specs.SeqTable.{seq_rows}
@@ -25,7 +25,7 @@ rows_of Pipe = pipe_rows
 rows_of Seq = seq_rows
 rows_of SeqPlus = plus_rows
 
--- a text and an end of the run of an image under a design, with what is listed at each address
+-- the text and the end of the run of an image under a design; `listing` has the text that is listed at each address
 unfoldable pub Shows : Processor → Variant → List Term → (ℕ → Option (List ℕ)) → ℕ → CycleRange → List ℕ → List ℕ → Stat → Type 0
 Shows Pipe v terms listing limit window image text end = ShowsRun v terms listing window image limit text end
 Shows Seq v terms listing limit window image text end = seq.ShowsRun (seq.SeqShows v terms) seq.seq_stat window (start image) limit text end

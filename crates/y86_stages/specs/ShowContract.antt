@@ -1,4 +1,4 @@
--- What a call of the program did to the outside.
+-- What a call of the program did to files and streams.
 use Rattle.std.specs.Prelude.{◌≡◌, ◌⊎◌, ℕ, ◌||◌, if◌then◌else◌, List, Option, Some, None, Result, Ok, Err, codes}
 use Rattle.pipe_stage_text.specs.declared.observer.CycleRange.{CycleRange}
 use Rattle.y86_base.specs.declared.parts.Variant.{Variant}
@@ -30,7 +30,7 @@ pub record Request : Type 0 where
   pub limit : ℕ
   pub variant : Variant
 
--- the words are those of `psim`, without a trace and without a check
+-- the words are those of `psim`, without `--trace` and without `--checked`
 abbrev pub request_of : Option Command → Option Request
 request_of (Some (psim name object size limit trace checked v)) =
     if trace || checked then None else Some (record { name = name; object = object; size = size; limit = limit; variant = v })
@@ -51,13 +51,13 @@ ReportsEnd before after (Ok status) told = (told ≡ status) × (after ≡ befor
 ReportsEnd before after (Err stop) told =
     (told ≡ status_of stop) × WroteError before after (stop_line stop) × (status_of stop ≡ 4 → after ≡ before)
 
--- a call whose words say this, if they have a form
+-- a call with this meaning of its words, if they are valid
 unfoldable pub CallEndsAs : Option Scanned → FilesState → FilesState → SinkState → SinkState → Result ℕ code.StopReason → Type 0
 CallEndsAs None files_before files_after before after result = ShowOutcome Pipe None (window_of first_read) files_before files_after before after result
 CallEndsAs (Some r) files_before files_after before after result =
     ShowOutcome r.processor (request_of (form_of r.words)) (window_of r) files_before files_after before after result
 
--- a call did what its words say and told how that ended, or memory ran out and nothing was read or shown
+-- a call did what its words say and reported how that ended, or memory ran out and nothing was read or shown
 pub record ShowContract (said : Option Scanned) (files_before files_after : FilesState) (out_before out_after err_before err_after : SinkState) (status : ℕ) : Type 0 where
   pub result : Result ℕ code.StopReason
   pub ends : CallEndsAs said files_before files_after out_before out_after result ⊎ ((result ≡ Err Memory) × (files_after ≡ files_before) × (out_after ≡ out_before))

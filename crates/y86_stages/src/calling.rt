@@ -1,4 +1,4 @@
-//! The top call: shows what the words say, and answers the status.
+//! The top call: shows what the words select, and returns the status.
 ghost use Rattle.std.specs.Prelude.{◌≡◌, ◌≤◌, ◌↔◌, IfErr, IfOk, IfSome, None, Some, map, string_bytes};
 ghost use Rattle.std.specs.IoError.{error_kind};
 ghost use Rattle.std.specs.Option.{option_map};
@@ -26,7 +26,7 @@ use std::io::ErrorKind;
 use wb_io::{Files, Sink, put_all};
 use y86_words::{Cmd, Usage, words};
 
-/// What the options say is shown: all cycles where they don't say it.
+/// The cycles that are shown: all, unless the options limit them.
 fn window_of(r: &ScannedArguments) -> CycleRange
     ensures { result ≡ reading.window_of (read_in r.now) }
 {
@@ -37,7 +37,7 @@ fn window_of(r: &ScannedArguments) -> CycleRange
     }
 }
 
-/// The run that a command of `psim` is, where it asks for no trace and no check.
+/// The run of a command of `psim`, if it asks for no trace and no check.
 fn request_of<'a>(command: Cmd<'a>) -> Option<RunRequest<'a>>
     requires { IsInRange (command_in command) }
     ensures request { option_map request_in result ≡ spec.request_of (Some (command_in command.entry)) }
@@ -68,7 +68,7 @@ fn request_of<'a>(command: Cmd<'a>) -> Option<RunRequest<'a>>
     }
 }
 
-/// Shows what the words of `psim` say.
+/// Shows the run that the words of `psim` name.
 #[tactic(auto, unfolding(crate::specs::ShowContract::ShowOutcome))]
 fn show_words<'a, F: Files, O: Sink>(
     alloc: Global,
@@ -99,7 +99,7 @@ fn show_words<'a, F: Files, O: Sink>(
     }
 }
 
-/// Tells a stop on standard error, and gives its status.
+/// Reports a stop on standard error, and returns its status.
 #[tactic(auto, using(cli_plans::proofs::Told::told_whole, cli_plans::proofs::Told::told_part))]
 fn tell_stop<E: Sink>(stop: &StopReason<'_>, err: &mut E) -> Status
     ensures status { result ≡ status_of stop.now }
@@ -121,7 +121,7 @@ fn tell_stop<E: Sink>(stop: &StopReason<'_>, err: &mut E) -> Status
     }
 }
 
-/// The program: shows what the words behind its own name say, over any files and sinks, and gives the status that it ends with.
+/// The program: shows what the words after its own name select, over any files and sinks, and returns its exit status.
 #[tactic(auto, using(crate::proofs::Ended::called_usage, crate::proofs::Ended::called_memory, crate::proofs::Ended::called_done, crate::proofs::Ended::called_stopped))]
 pub fn run<F: Files, O: Sink, E: Sink>(
     alloc: Global,
@@ -153,7 +153,8 @@ pub fn run<F: Files, O: Sink, E: Sink>(
     }
 }
 
-/// The same on the words as the system gives them, the program's own name first. Words that can't be read have no form.
+/// The same on the words as the system passes them, the program's own name first. Words that can't be read aren't
+/// valid.
 #[tactic(auto, using(crate::proofs::Ended::called_usage, crate::proofs::Ended::called_memory))]
 pub fn call<F: Files, O: Sink, E: Sink>(
     alloc: Global,

@@ -1,4 +1,5 @@
-//! The program `y86-stages`: a machine's stages, cycle by cycle, over the files that its words name, standard output and standard error.
+//! The program `y86-stages`: prints the stages of a machine, cycle by cycle. This is its connection to the command
+//! line, the files, standard output and standard error.
 #![tactic(auto)]
 
 mod calling;

@@ -1,4 +1,4 @@
-//! The words of a call: those of `psim`, and among them the options that say what is shown.
+//! The words of a call: those of `psim`, and among them the options that select what is shown.
 ghost use Rattle.std.specs.Prelude.{◌≡◌, IfOk, OnOk, map, string_bytes};
 ghost use Rattle.std.specs.Option.{option_map};
 ghost use Rattle.y86_stages.specs.ScannedWords as spec;
@@ -15,7 +15,7 @@ pub enum Processor {
     SeqPlus,
 }
 
-/// An option that says what is shown.
+/// An option that selects what is shown.
 #[derive(Clone, Copy, Debug, PartialEq, Eq)]
 pub enum ShowOption {
     /// `--diagram`
@@ -30,7 +30,8 @@ pub enum ShowOption {
     OnSeqPlus,
 }
 
-/// What was read of the words: those that are `psim`'s, behind its name, and what the options say. `wants` is an option whose number is the next word.
+/// What was read of the words: those of `psim`, after its name, and the options. `wants` is an option whose number is
+/// the next word.
 #[derive(Drop)]
 pub struct ScannedArguments {
     pub words: Vec<String>,
@@ -41,7 +42,7 @@ pub struct ScannedArguments {
     pub wants: Option<ShowOption>,
 }
 
-/// The option that a word is.
+/// The option with this name.
 fn own_of(word: &str) -> Option<ShowOption>
     ensures { result ≡ spec.own_of word.now }
 {
@@ -70,7 +71,7 @@ fn cycle_number(word: &str) -> Option<u64>
     number_within(word.as_bytes(), 1, u64::MAX)
 }
 
-/// Reads the number of an option, and says whether the word is one.
+/// Reads the number of an option, and returns whether the word is a number.
 fn read_number(r: &mut ScannedArguments, own: ShowOption, word: &str) -> bool
     ensures { spec.ScansNumber (spec.read_in r.old) own word.now result (spec.read_in r.new) }
 {
@@ -93,7 +94,7 @@ fn is_pipe(processor: Processor) -> bool
     matches!(processor, Processor::Pipe)
 }
 
-/// Reads an option, and says whether it stands there for the first time.
+/// Reads an option, and returns whether it occurs for the first time.
 fn read_option(r: &mut ScannedArguments, own: ShowOption) -> bool
     ensures { spec.ScansOption (spec.read_in r.old) own result (spec.read_in r.new) }
 {
@@ -132,7 +133,7 @@ fn read_option(r: &mut ScannedArguments, own: ShowOption) -> bool
     true
 }
 
-/// Keeps a word of `psim`.
+/// Appends a word of `psim`.
 fn keep_word(r: &mut ScannedArguments, word: &String) -> Result<(), Memory>
     ensures { OnOk result (spec.read_in r.new ≡ spec.with_kept (spec.read_in r.old) (string_bytes word.now)) }
 {
@@ -145,7 +146,7 @@ fn keep_word(r: &mut ScannedArguments, word: &String) -> Result<(), Memory>
     }
 }
 
-/// Reads a word, and says whether it may stand there.
+/// Reads a word, and returns whether it may occur there.
 #[tactic(auto, unfolding(crate::specs::ScannedWords::read_word))]
 fn read_word(r: &mut ScannedArguments, word: &String) -> Result<bool, Memory>
     ensures { IfOk result (λ may_stand. spec.Scans (spec.read_in r.old) (string_bytes word.now) may_stand (spec.read_in r.new)) }
@@ -162,7 +163,7 @@ fn read_word(r: &mut ScannedArguments, word: &String) -> Result<bool, Memory>
     }
 }
 
-/// Nothing but the name of `psim`.
+/// The state before the first word: nothing but the name of `psim`.
 fn first_reading(alloc: Global) -> Result<ScannedArguments, Memory>
     ensures { IfOk result (λ r. spec.read_in r ≡ spec.first_read) }
 {
@@ -184,7 +185,7 @@ fn first_reading(alloc: Global) -> Result<ScannedArguments, Memory>
     })
 }
 
-/// Reads the words behind the program's own name; `None` where they have no form.
+/// Reads the words after the program's own name; `None` if they aren't valid.
 #[tactic(auto, unfolding(crate::specs::ScannedWords::all_read))]
 pub fn read_words(alloc: Global, words: &[String]) -> Result<Option<ScannedArguments>, Memory>
     ensures { IfOk result (λ read. option_map spec.read_in read ≡ spec.read_of (map string_bytes words.now)) }

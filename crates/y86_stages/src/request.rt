@@ -1,4 +1,4 @@
-//! What the words of a call ask for.
+//! The parameters of a call.
 use crate::reading::Processor;
 use pipe_stage_text::CycleRange;
 use y86_base::Variant;
@@ -12,7 +12,7 @@ pub struct RunRequest<'a> {
     pub object: &'a str,
     /// The size of the memory in bytes.
     pub memory: u64,
-    /// The most cycles that are done.
+    /// The most cycles.
     pub limit: u64,
     /// The instruction set.
     pub variant: Variant,

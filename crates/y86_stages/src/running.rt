@@ -39,7 +39,7 @@ fn design_file<'a, F: Files>(
     }
 }
 
-/// Runs the image of an object text, and gives what is shown of it.
+/// Runs the image of an object text, and returns what is shown of it.
 #[tactic(auto, unfolding(crate::specs::ShowAnswers::Shows))]
 fn watch(
     alloc: Global,
@@ -74,7 +74,7 @@ fn watch(
     }
 }
 
-/// Runs the image of an object text, and says what is shown of it.
+/// Runs the image of an object text, and writes what is shown of it.
 fn show_image<'a, O: Sink>(
     alloc: Global,
     request: ShowRequest<'_>,

@@ -1,4 +1,4 @@
-//! The program `y86-tell`: the words of its command line, the files that they name, standard output and standard error.
+//! The program `y86-tell`: its command line, the files, standard output and standard error.
 #![tactic(auto)]
 
 use std::process::ExitCode;
@@ -6,7 +6,7 @@ use std::{env, io};
 use tell_cli::{call_of, respond};
 use wb_io::{HostFiles, HostSink};
 
-/// The status of a call that names no command.
+/// Prints the error or help message of the command line, and returns the status: 2 unless it was a request for help.
 fn misuse<R: Print + Eprint>(rt: &R, error: &clap::Error) -> u8 {
     let _ = error.print(rt);
     match error.exit_code() {

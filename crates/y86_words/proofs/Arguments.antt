@@ -1,4 +1,4 @@
--- The arguments of words, one by one, and what is found in them.
+-- Reading arguments from words, one by one, and collecting them.
 use Rattle.std.proofs.Common.{◌≡◌, ℕ, ◌<◌, Bool, true, false, List, [], ◌∷◌, length, map, refl, Option, Some, None, option_and_then, is_some, ◌≢◌, ◌&&◌, arith}
 use Rattle.std.specs.Prelude.{string_bytes, String}
 use Rattle.std.specs.Global.{Global}
@@ -86,7 +86,7 @@ other_lengths (p ∷ ps) (w ∷ ws) h = at (fits_place (place_in p) w.now) (othe
     at true e = e
     at false e = refl
 
--- ---- what is found
+-- ---- collecting arguments
 
 all_none : (arguments : List Argument) → all_added None arguments ≡ None
 all_none [] = refl

@@ -1,4 +1,4 @@
--- The commands that words are, are legal.
+-- The command that words form is legal.
 use Rattle.std.proofs.Common.{◌≡◌, ℕ, ◌%◌, Bool, true, false, cond, ◌&&◌, nat_le, nat_eq, List, [], ◌∷◌, get_or, slice_get, unwrap_or, refl, subst, Option, Some, None, option_and_then, lit≤, arith, ◌≤◌}
 use Rattle.std.proofs.lemmas.Bool.{eqb-true, leb-true, and_parts}
 use Rattle.std.specs.List.{AllByRecursion}
@@ -17,7 +17,7 @@ use Rattle.y86_words.proofs.Wording.{has_form}
 
 -- ---- the arguments of words are legal
 
--- the numbers of an option that takes them
+-- the numbers of an option that takes a number
 abbrev IsNumberOf : OptionName → ℕ → Type 0
 IsNumberOf Full n = Unit {0}
 IsNumberOf Mem n = IsSize n
@@ -33,7 +33,7 @@ IsLegalArgument (switch s n) = IsNumberOf s n
 abbrev AllLegal : List Argument → Type 0
 AllLegal read = AllByRecursion IsLegalArgument read
 
--- what a word is, is legal
+-- the reading of a word is legal
 abbrev IsLegalReading : WordReading → Type 0
 IsLegalReading (whole argument) = IsLegalArgument argument
 IsLegalReading (needs s passes) = (n : ℕ) → passes n ≡ true → IsNumberOf s n
@@ -75,7 +75,7 @@ in_front_legal argument None read e p q = absurd (cc (e))
 in_front_legal argument (Some rest) read e p q =
     let same : argument ∷ rest ≡ read = cc (e) in subst AllLegal same (p, q rest refl)
 
--- the number of an option that passes
+-- the number of an option is one that passes the option's test
 number_legal : (s : OptionName) (passes : ℕ → Bool) (number : Option ℕ) (others : Option (List Argument)) (read : List Argument) →
     in_front (option_map (switch s) (option_and_then (λ n. cond (passes n) (Some n) None) number)) others ≡ Some read →
     ((n : ℕ) → passes n ≡ true → IsNumberOf s n) → ((rest : List Argument) → others ≡ Some rest → AllLegal rest) → AllLegal read
@@ -105,7 +105,7 @@ arguments_legal (word ∷ []) read e = last_legal (reading_of word) read (readin
 arguments_legal (word ∷ next ∷ rest) read e =
     before_legal (reading_of word) next (arguments rest) (arguments (next ∷ rest)) read (reading_legal word) e (arguments_legal rest) (arguments_legal (next ∷ rest))
 
--- ---- what was found in them is
+-- ---- what was collected from them is legal
 
 places_legal : (read : List Argument) → AllLegal read → AllByRecursion IsFileName (places_of read)
 places_legal [] h = tt
@@ -159,7 +159,7 @@ numbers_legal s (switch t n ∷ rest) h = at (nat_eq (index_of s) (index_of t)) 
     at true e more = let P : OptionName → Type 0 = λ x. IsNumberOf x n in (subst P (same_switch s t e) h.0, more)
     at false e more = more
 
--- the number or the default
+-- the number, or the default without one
 one_legal : (P : ℕ → Type 0) (default : ℕ) (number : Option ℕ) → P default → AllByRecursion P (option_to_list number) → P (unwrap_or number default)
 one_legal P default None d h = d
 one_legal P default (Some n) d h = h.0
@@ -171,7 +171,7 @@ first_legal (first ∷ rest) word h e = let same : first ≡ word = cc (e) in su
 default_size : IsSize 8192
 default_size = record { least = lit≤ tt; most = lit≤ tt; whole_words = refl }
 
--- what was found is legal
+-- the collected arguments are legal
 record IsLegalFound (f : FoundSoFar) : Type 0 where
   words : AllByRecursion IsFileName f.words
   size : IsSize (size_of f)

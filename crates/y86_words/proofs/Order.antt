@@ -1,4 +1,4 @@
--- Options may stand anywhere behind the name.
+-- Options may occur anywhere after the name.
 use Rattle.std.proofs.Common.{◌≡◌, ◌≢◌, ℕ, ◌<◌, Bool, true, false, cond, eqb, is_none, ltb, List, [], ◌∷◌, ◌++◌, length, get_or, set, refl, sym, ap, ◌∙◌, Option, Some, None, option_and_then, arith}
 use Rattle.std.proofs.lemmas.Bool.{eqb-true, eqb-false}
 use Rattle.std.proofs.lemmas.List.{get_or-set_same, get_or-set_other, length-set, set_comm}
@@ -12,7 +12,7 @@ use Rattle.y86_words.proofs.Arguments.{index_below}
 
 -- ---- the arguments of words in front of other words
 
--- arguments in front of others, where there are all of them
+-- arguments in front of others, if the others could be read
 abbrev in_front_all : List Argument → Option (List Argument) → Option (List Argument)
 in_front_all done None = None
 in_front_all done (Some others) = Some (done ++ others)
@@ -53,7 +53,7 @@ unfolding arguments
 no_argument word [] is = rw is refl
 no_argument word (next ∷ rest) is = rw is refl
 
--- a first argument, and those of the words behind it
+-- a first argument, and those of the words after it
 behind : (first : Option Argument) (rest back words : List (List ℕ)) (done : List Argument) → in_front first (arguments rest) ≡ Some done →
     arguments words ≡ in_front first (arguments (rest ++ back)) →
     ((others : List Argument) → arguments rest ≡ Some others → arguments (rest ++ back) ≡ in_front_all others (arguments back)) →
@@ -67,7 +67,7 @@ nothing : (done : List Argument) → arguments [] ≡ Some done → [] ≡ done
 unfolding arguments
 nothing done e = cc (e)
 
--- the arguments of words stand in front of those of the words behind them
+-- the arguments of words come before those of the words after them
 all_in_front : (front back : List (List ℕ)) (done : List Argument) → arguments front ≡ Some done → arguments (front ++ back) ≡ in_front_all done (arguments back)
 all_in_front [] back done e = sym (none_in_front (arguments back)) ∙ ap (λ d. in_front_all d (arguments back)) (nothing done e)
 all_in_front (word ∷ []) back done e = at (reading_of word) refl (all_in_front [] back)
@@ -137,7 +137,7 @@ exchanged f s n (switch t m) all_slots = at (eqb (index_of t) (index_of s)) refl
         twice f s t n m _ same all_slots refl ∙ sym (twice f t s m n _ (sym same) all_slots refl)
     at false e = apart f s t n m _ _ (eqb-false (index_of t) (index_of s) e) refl refl
 
--- ---- options in front of other arguments, or behind them
+-- ---- options before other arguments, or after them
 
 abbrev HasAll : Option FoundSoFar → Type 0
 HasAll None = Unit {0}
@@ -170,7 +170,7 @@ next_added : (f : Option FoundSoFar) (argument : Argument) (rest : List Argument
 unfolding and_added
 next_added f argument rest = refl
 
--- one option, in front of others or behind them
+-- one option, before others or after them
 moved : (others : List Argument) (f : Option FoundSoFar) (s : OptionName) (n : ℕ) → HasAll f →
     all_added (and_added (switch s n) f) others ≡ and_added (switch s n) (all_added f others)
 moved [] f s n all_slots = refl
@@ -196,7 +196,7 @@ any_place xs ys zs f none all_slots =
     all_added-append xs (ys ++ zs) f ∙ all_added-append ys zs (all_added f xs) ∙ ap (λ g. all_added g zs) (all_moved xs ys f none all_slots)
     ∙ sym (all_added-append ys (xs ++ zs) f ∙ all_added-append xs zs (all_added f ys))
 
--- the arguments of some words, where there are all of them
+-- the arguments of words that could be read
 read_of : (words : List (List ℕ)) (read : Option (List Argument)) → arguments words ≡ read → AreArguments words → (done : List Argument) × (arguments words ≡ Some done)
 read_of words None e are = absurd (cc (e, are))
 read_of words (Some done) e are = (done, e)

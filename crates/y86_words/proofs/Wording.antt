@@ -1,4 +1,4 @@
--- The law of the words: the words of a command, and the commands that words are.
+-- The law of the words: a command written as words is read back, and words form only legal commands.
 use Rattle.std.proofs.Common.{◌≡◌, ℕ, ◌<◌, ◌≤◌, ◌^◌, Bool, true, false, cond, ltb, eqb, IsTrue, is_none, List, [], ◌∷◌, ◌++◌, length, get_or, set, refl, sym, ap, subst, ◌∙◌, Option, Some, None, option_and_then, Contains, append_assoc, append-nil, suc, arith}
 use Rattle.std.proofs.lemmas.Bool.{and_from, le-leb, lt-ltb, eq-eqb, eqb-true, eqb-false}
 use Rattle.std.proofs.lemmas.Fmt.{decimal_is_IsNumeral, length-decimal-le}
@@ -21,7 +21,7 @@ use Rattle.y86_words.specs.Numbers.{is_number, number_of, number_that, is_run_li
 use Rattle.y86_words.specs.Wording.{IsFileName, IsRunLimit, IsInRange, trace_words, checked_words, variant_words, words_of, places_of, numbers_of, IsFound, HasForm}
 use Rattle.y86_words.proofs.Arguments.{index_below, place_read, switch_read}
 
--- ---- the words of a legal command are that command
+-- ---- the words of a legal command form that command
 
 number_of-decimal : (n : ℕ) → n < 2 ^ 64 → number_of (decimal n) ≡ Some n
 number_of-decimal n small =
@@ -62,7 +62,7 @@ plus_arguments rest = file_arguments (codes "seqplus") rest (omega arith, refl)
 pipe_arguments : (rest : List (List ℕ)) → arguments (codes "pipe" ∷ rest) ≡ in_front (Some (place (codes "pipe"))) (arguments rest)
 pipe_arguments rest = file_arguments (codes "pipe") rest (omega arith, refl)
 
--- decimal digits are no option
+-- decimal digits don't form an option
 no_option : (digits : List ℕ) → AllDigits 10 digits → is_option digits ≡ false
 no_option [] h = refl
 no_option (c ∷ digits) h = at (eqb 45 c) refl
@@ -187,9 +187,9 @@ pub defaults_hold : (file : List ℕ) → IsFileName file →
 unfolding form_of first_fit
 defaults_hold file name = (rw (file_arguments file [] name, no_arguments) refl, rw (file_arguments file [] name, no_arguments) refl)
 
--- ---- words that are a command
+-- ---- words that form a command
 
--- what is found after more arguments
+-- what is collected after more arguments
 pub record Grows (f g : FoundSoFar) (more : List Argument) : Type 0 where
   pub words : f.words ++ places_of more ≡ g.words
   pub numbers : (s : OptionName) → option_to_list (get_or f.values (index_of s) None) ++ numbers_of s more ≡ option_to_list (get_or g.values (index_of s) None)
@@ -259,7 +259,7 @@ all_found found f e =
 one_more : (first form : Form) (rows : List Form) → Contains rows form → Contains (first ∷ rows) form
 one_more first form rows (k, inside, same) = (suc k, omega (arith, inside), same)
 
--- a row that the name and what was found behind it fit
+-- a row that fits the name and the collected arguments
 Fit : List Form → List ℕ → FoundSoFar → Command → Type 0
 Fit rows name f command = (form : Form) × Contains rows form × IsTrue (fits form name f) × (built_command form.kind f ≡ Some command)
 
@@ -285,7 +285,7 @@ form_at name rest (Some read) command are e = at (all_added (Some nothing_filled
         let fit = fit_of forms name f command e in
         record { read = read; are = are; found = f; is_found = all_found read f all; form = fit.0; is_row = fit.1; fits = fit.2; is_command = fit.3 }
 
--- words that are a command have the name, the places and the options of a row, each option at most once
+-- words that form a command have the name, the places and the options of a row, each option at most once
 pub has_form : (name : List ℕ) (rest : List (List ℕ)) (command : Command) → form_of (name ∷ rest) ≡ Some command → HasForm name rest command
 unfolding form_of
 has_form name rest command e = form_at name rest (arguments rest) command refl e

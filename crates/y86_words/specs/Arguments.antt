@@ -1,4 +1,4 @@
--- The arguments in the words behind the name of a command: the words that fill places, and the options.
+-- The arguments in the words after the name of a command: the words that fill places, and the options.
 use Rattle.std.specs.Prelude.{ℕ, Bool, nat_lt, nat_eq, if◌then◌else◌, List, [], ◌∷◌, ◌++◌, length, codes, get_or, set, Option, Some, None, is_none, option_and_then}
 use Rattle.std.specs.List.{starts_with}
 use Rattle.std.specs.Option.{option_map}
@@ -18,7 +18,7 @@ index_of Trace = 3
 index_of Checked = 4
 index_of Cert = 5
 
--- the numbers that an option takes, or none where it takes no number
+-- the test for the number of an option, or none if the option takes no number
 abbrev pub takes : OptionName → Option (ℕ → Bool)
 takes Full = None
 takes Mem = Some is_image_size
@@ -27,7 +27,7 @@ takes Trace = None
 takes Checked = None
 takes Cert = None
 
--- the option that a word is
+-- the option with this name
 abbrev pub switch_of : List ℕ → Option OptionName
 switch_of word =
     if bytes_eq word (codes "--full") then Some Full
@@ -40,12 +40,12 @@ switch_of word =
 
 -- ---- the arguments
 
--- a word that fills a place, or an option with its number, which is 0 where it takes none
+-- a word that fills a place, or an option with its number, which is 0 if the option takes none
 pub data Argument : Type 0 where
   place : List ℕ → Argument
   switch : OptionName → ℕ → Argument
 
--- what a word is: an argument, or an option whose number is the next word, or neither
+-- how a word is read: as an argument, as an option whose number is the next word, or not at all
 pub data WordReading : Type 0 where
   whole : Argument → WordReading
   needs : OptionName → (ℕ → Bool) → WordReading
@@ -71,7 +71,7 @@ place_reading (first ∷ rest) = whole (place (first ∷ rest))
 abbrev pub reading_of : List ℕ → WordReading
 reading_of word = if is_option word then option_reading (switch_of word) else place_reading word
 
--- an argument in front of others, where there are all of them
+-- an argument in front of others, if it and the others could be read
 abbrev pub in_front : Option Argument → Option (List Argument) → Option (List Argument)
 in_front None others = None
 in_front (Some argument) None = None
@@ -83,21 +83,22 @@ last (whole argument) = Some (argument ∷ [])
 last (needs s passes) = None
 last neither = None
 
--- the arguments of a word in front of others: the next word, the arguments behind that one, and those from it on
+-- the arguments of a word and of those after it: `next` is the next word, `from` the arguments from it on, and `behind`
+-- those after it
 abbrev pub before : WordReading → List ℕ → Option (List Argument) → Option (List Argument) → Option (List Argument)
 before (whole argument) next behind from = in_front (Some argument) from
 before (needs s passes) next behind from = in_front (option_map (switch s) (number_that passes next)) behind
 before neither next behind from = None
 
--- the arguments of some words, read from the left
+-- the arguments of a list of words, read from the left
 unfoldable pub arguments : List (List ℕ) → Option (List Argument)
 arguments [] = Some []
 arguments (word ∷ []) = last (reading_of word)
 arguments (word ∷ next ∷ rest) = before (reading_of word) next (arguments rest) (arguments (next ∷ rest))
 
--- ---- what is found in arguments
+-- ---- collecting arguments
 
--- the words of the places, in order, and the number of each option that is there, by its index
+-- the words of the places, in order, and the number of each option that was given, by its index
 pub record FoundSoFar : Type 0 where
   pub words : List (List ℕ)
   pub values : List (Option ℕ)
@@ -105,7 +106,7 @@ pub record FoundSoFar : Type 0 where
 abbrev pub nothing_filled : FoundSoFar
 nothing_filled = record { words = []; values = None ∷ None ∷ None ∷ None ∷ None ∷ None ∷ [] }
 
--- what is found with one more argument: nothing if it is a fourth one without an option, or an option given twice
+-- what is collected with another argument: nothing if it is a fourth one without an option, or an option given twice
 abbrev pub added : FoundSoFar → Argument → Option FoundSoFar
 added f (place word) = if nat_lt (length f.words) 3 then Some (record f { words = f.words ++ word ∷ [] }) else None
 added f (switch s n) =

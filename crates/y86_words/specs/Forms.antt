@@ -1,5 +1,5 @@
--- The forms of the commands, as rows: a name, the places behind it in order, and the options, which stand anywhere behind the
--- name.
+-- The forms of the commands, as rows: a name, the places after it in order, and the options, which may occur anywhere
+-- after the name.
 use Rattle.std.specs.Prelude.{ℕ, Bool, true, false, ◌&&◌, ◌||◌, ◌==◌, if◌then◌else◌, List, [], ◌∷◌, codes, get_or, slice_get, Option, Some, None, is_none, is_some, unwrap_or, option_and_then}
 use Rattle.std.specs.List.{list_any}
 use Rattle.std.specs.Option.{option_map}
@@ -13,7 +13,7 @@ use Rattle.y86_words.specs.declared.option.OptionName.TheVariants.{Full, Mem, Li
 use Rattle.y86_words.specs.declared.form.CommandKind.{CommandKind}
 use Rattle.y86_words.specs.declared.form.CommandKind.TheVariants.{Yas, Yis, Hcl, Ssim, Ssimp, Psim, CheckSeq, CheckPlus, CheckPipe, CertifyPipe, Recheck, Sample, Aig, Aigrun, Big}
 
--- what a place takes: this word, the name of a file, or a number from a least one to a most one
+-- what a place takes: this word, the name of a file, or a number from the first bound to the second
 pub data PlaceForm : Type 0 where
   keyword : List ℕ → PlaceForm
   file : PlaceForm
@@ -28,15 +28,15 @@ pub record Form : Type 0 where
 abbrev pub row : CommandKind → List ℕ → List PlaceForm → List OptionName → Form
 row kind name places options = record { kind = kind; name = name; places = places; options = options }
 
--- the most valuations that are drawn
+-- the most valuations that `sample` draws
 abbrev pub most_drawn : ℕ
 most_drawn = 1000000
 
--- the largest number that draws begin with
+-- the largest seed of a draw
 abbrev pub most_seed : ℕ
 most_seed = 18446744073709551615
 
--- the most instructions of a generated program, but for the last, which halts
+-- the most instructions of a generated program, apart from the last, which halts
 abbrev pub most_instructions : ℕ
 most_instructions = 100000
 
@@ -52,7 +52,7 @@ forms =
     ∷ row CheckSeq (codes "check") (keyword (codes "seq") ∷ file ∷ []) (Full ∷ [])
     ∷ row CheckPlus (codes "check") (keyword (codes "seqplus") ∷ file ∷ []) (Full ∷ [])
     ∷ row CheckPipe (codes "check") (keyword (codes "pipe") ∷ file ∷ []) (Full ∷ [])
-    -- only with `--cert`: without it the words have the form above
+    -- only with `--cert`: without it the row above fits
     ∷ row CertifyPipe (codes "check") (keyword (codes "pipe") ∷ file ∷ []) (Full ∷ Cert ∷ [])
     ∷ row Recheck (codes "recheck") (file ∷ file ∷ []) (Full ∷ [])
     ∷ row Sample (codes "sample") (file ∷ number 0 most_seed ∷ number 0 most_drawn ∷ []) (Full ∷ [])
@@ -61,7 +61,7 @@ forms =
     ∷ row Big (codes "big") (number 1 most_instructions ∷ file ∷ []) (Full ∷ [])
     ∷ []
 
--- ---- the form that words have
+-- ---- whether words fit a form
 
 abbrev pub fits_place : PlaceForm → List ℕ → Bool
 fits_place (keyword text) given = bytes_eq given text
@@ -74,7 +74,7 @@ fits_places [] (word ∷ words) = false
 fits_places (place ∷ places) [] = false
 fits_places (place ∷ places) (word ∷ words) = fits_place place word && fits_places places words
 
--- an option that is there is one of the form's
+-- an option that was given is one of the form's
 abbrev pub fits_switch : List OptionName → List (Option ℕ) → OptionName → Bool
 fits_switch options values s = is_none (get_or values (index_of s) None) || list_any (λ o. index_of o == index_of s) options
 
@@ -99,32 +99,31 @@ pub data Command : Type 0 where
   ssim : List ℕ → List ℕ → ℕ → ℕ → Variant → Command
   -- the same on SEQ+, which computes the PC as a cycle begins
   ssimp : List ℕ → List ℕ → ℕ → ℕ → Variant → Command
-  -- run an object file on PIPE under an HCL file: as for ssim, whether a trace is asked for, and whether the HCL file is to be
-  -- checked first
+  -- run an object file on PIPE under an HCL file: as for ssim, whether a trace is asked for, and whether the HCL file
+  -- is checked first
   psim : List ℕ → List ℕ → ℕ → ℕ → Bool → Bool → Variant → Command
   -- decide whether SEQ under an HCL file does what its instructions mean: the name of the file, the instruction set
   check_seq : List ℕ → Variant → Command
-  -- the same of SEQ+
+  -- the same for SEQ+
   check_plus : List ℕ → Variant → Command
-  -- the same of PIPE, for the programs that don't store over their own instructions
+  -- the same for PIPE, and for the programs that don't store over one of the next three instructions
   check_pipe : List ℕ → Variant → Command
-  -- the same, with a certificate of a Yes in the place of its line
+  -- the same, with a certificate instead of the line of a `yes`
   certify_pipe : List ℕ → Variant → Command
-  -- check a certificate of a Yes: the names of the HCL file and of the certificate, the instruction set
+  -- check a certificate that a file is accepted: the names of the HCL file and of the certificate, the instruction set
   recheck : List ℕ → List ℕ → Variant → Command
-  -- try drawn valuations against the obligations of PIPE: the name of the HCL file, the number that the draws begin with, how many
-  -- valuations, the instruction set
+  -- try drawn valuations against the obligations of PIPE: the name of the HCL file, the seed, the number of valuations,
+  -- the instruction set
   sample : List ℕ → ℕ → ℕ → Variant → Command
   -- write the obligations of PIPE under an HCL file as AIGER text
   aig : List ℕ → Variant → Command
-  -- count for each output of an AIGER file the drawn inputs at which it is 1: the name of the file, the number that the draws
-  -- begin with
+  -- count, for each output of an AIGER file, the drawn inputs at which it is 1: the name of the file, the seed
   aigrun : List ℕ → ℕ → Command
-  -- run a generated program at the level of instructions and on PIPE: how many instructions, the name of the HCL file, the
-  -- instruction set
+  -- run a generated program at the level of instructions and on PIPE: the number of instructions, the name of the HCL
+  -- file, the instruction set
   big : ℕ → List ℕ → Variant → Command
 
--- `--full` takes the instruction set with `iaddq`
+-- `--full` selects the instruction set with `iaddq`
 abbrev pub variant_with : Option ℕ → Variant
 variant_with None = variant.Base
 variant_with (Some n) = variant.Full
@@ -132,7 +131,7 @@ variant_with (Some n) = variant.Full
 abbrev pub variant_of : FoundSoFar → Variant
 variant_of f = variant_with (get_or f.values (index_of Full) None)
 
--- where `--mem` is absent, the size of the memory, and where `--limit` is, the most steps or cycles
+-- the size of the memory without `--mem`, and the most steps or cycles without `--limit`
 abbrev pub default_size : ℕ
 default_size = 8192
 
@@ -158,7 +157,7 @@ checked_of f = is_some (get_or f.values (index_of Checked) None)
 abbrev pub number_at : ℕ → ℕ → ℕ → FoundSoFar → Option ℕ
 number_at least most at f = option_and_then (number_within least most) (slice_get f.words at)
 
--- the command of a row with what was found
+-- the command of a row with the collected arguments
 abbrev pub built_command : CommandKind → FoundSoFar → Option Command
 built_command Yas f = option_map (λ source. yas source (size_of f) (variant_of f)) (slice_get f.words 0)
 built_command Yis f = option_map (λ object. yis object (size_of f) (limit_of f) (variant_of f)) (slice_get f.words 0)
@@ -186,7 +185,7 @@ unfoldable pub first_fit : List Form → List ℕ → FoundSoFar → Option Comm
 first_fit [] name f = None
 first_fit (form ∷ rest) name f = if fits form name f then built_command form.kind f else first_fit rest name f
 
--- the command that words are, if any
+-- the command that words form, if any
 unfoldable pub form_of : List (List ℕ) → Option Command
 form_of [] = None
 form_of (name ∷ rest) =

@@ -1,4 +1,4 @@
--- What the code keeps of words and forms, against their definitions.
+-- The definitions that the code's arguments and forms stand for.
 use Rattle.std.specs.Prelude.{◌≡◌, ℕ, List, map, string_bytes, Option, Some, None}
 use Rattle.std.specs.Borrow.{Bor}
 use Rattle.std.specs.declared.alloc.Global.{Global}
@@ -18,7 +18,7 @@ abbrev pub argument_in : code.Argument → Argument
 argument_in (code_variants.Positional word) = place word.now
 argument_in (code_variants.Switch s n) = switch s n
 
--- an argument and the words behind it
+-- an argument and the words after it
 pub record FirstSplit : Type 0 where
   pub argument : Argument
   pub rest : List (List ℕ)
@@ -26,7 +26,7 @@ pub record FirstSplit : Type 0 where
 abbrev pub split_in : code.Argument × Bor (List (String Global)) → FirstSplit
 split_in pair = record { argument = argument_in pair.0; rest = map string_bytes pair.1.now }
 
--- the arguments of some words are a first one and those of the rest, or there are none
+-- the arguments of the words are a first one and those of the rest, or the words can't be read
 abbrev pub FirstArgument : List (List ℕ) → Option FirstSplit → Type 0
 FirstArgument words None = arguments words ≡ None
 FirstArgument words (Some split) = arguments words ≡ in_front (Some split.argument) (arguments split.rest)

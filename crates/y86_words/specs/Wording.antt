@@ -1,4 +1,4 @@
--- Which words are a command: the terms of the law of the words.
+-- Which words form a command: the terms of the law of the words.
 use Rattle.std.specs.Prelude.{◌≡◌, ◌<◌, ◌≤◌, ℕ, IsTrue, false, nat_eq, if◌then◌else◌, List, [], ◌∷◌, length, codes, get_or, None, Some, IsSome, Contains, Bool, true, ◌++◌}
 use Rattle.std.specs.Fmt.{decimal}
 use Rattle.std.specs.Option.{option_to_list}
@@ -9,7 +9,7 @@ use Rattle.y86_words.specs.Arguments.{Argument, place, switch, FoundSoFar, argum
 use Rattle.y86_words.specs.Forms.{Command, yas, yis, hcl, ssim, ssimp, psim, check_seq, check_plus, check_pipe, certify_pipe, recheck, Form, forms, fits, built_command, sample, most_drawn, most_seed, aig, aigrun, big, most_instructions}
 use Rattle.y86_words.specs.declared.option.OptionName.{OptionName}
 
--- what may name a file: a word that isn't empty and is no option
+-- a possible name of a file: a word that isn't empty and is no option
 abbrev pub IsFileName : List ℕ → Type 0
 IsFileName word = (0 < length word) × (is_option word ≡ false)
 
@@ -17,7 +17,7 @@ IsFileName word = (0 < length word) × (is_option word ≡ false)
 abbrev pub IsRunLimit : ℕ → Type 0
 IsRunLimit n = (1 ≤ n) × (n ≤ 100000000)
 
--- the commands that words can be
+-- the commands that words can form
 abbrev pub IsInRange : Command → Type 0
 IsInRange (yas source size v) = IsFileName source × IsSize size
 IsInRange (yis object size limit v) = IsFileName object × IsSize size × IsRunLimit limit
@@ -47,7 +47,7 @@ abbrev pub checked_words : Bool → List (List ℕ)
 checked_words false = []
 checked_words true = codes "--checked" ∷ []
 
--- the words of a command with each of its options
+-- the words of a command with all of its options
 abbrev pub words_of : Command → List (List ℕ)
 words_of (yas source size v) = codes "yas" ∷ source ∷ codes "--mem" ∷ decimal size ∷ variant_words v
 words_of (yis object size limit v) =
@@ -69,7 +69,7 @@ words_of (aig file v) = codes "aig" ∷ file ∷ variant_words v
 words_of (aigrun file seed) = codes "aigrun" ∷ file ∷ decimal seed ∷ []
 words_of (big n file v) = codes "big" ∷ decimal n ∷ file ∷ variant_words v
 
--- words that are arguments: file names and other words of places, and options each with its number
+-- words that can be read as arguments: file names and other words of places, and options each with its number
 abbrev pub AreArguments : List (List ℕ) → Type 0
 AreArguments words = IsSome (arguments words)
 
@@ -84,18 +84,18 @@ numbers_of s [] = []
 numbers_of s (place word ∷ rest) = numbers_of s rest
 numbers_of s (switch t n ∷ rest) = if nat_eq (index_of s) (index_of t) then n ∷ numbers_of s rest else numbers_of s rest
 
--- words that are options alone
+-- words that are only options
 pub record AreOptions (words : List (List ℕ)) : Type 0 where
   pub read : List Argument
   pub are : arguments words ≡ Some read
   pub no_place : places_of read ≡ []
 
--- what is found in arguments: the words of the places in order, and of each option its one number, or none
+-- what is collected from arguments: the words of the places in order, and for each option its one number, or none
 pub record IsFound (read : List Argument) (found : FoundSoFar) : Type 0 where
   pub words : places_of read ≡ found.words
   pub numbers : (s : OptionName) → numbers_of s read ≡ option_to_list (get_or found.values (index_of s) None)
 
--- a name and arguments that have the form of a row, each option at most once, and are its command
+-- a name and arguments that fit a row, with each option at most once, and form its command
 pub record HasForm (name : List ℕ) (rest : List (List ℕ)) (command : Command) : Type 0 where
   pub read : List Argument
   pub are : arguments rest ≡ Some read

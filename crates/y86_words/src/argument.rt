@@ -1,4 +1,4 @@
-//! The arguments in the words behind the name of a command: words that fill places, and options.
+//! The arguments in the words after the name of a command: words that fill places, and options.
 ghost use Rattle.std.specs.Prelude.{◌≡◌, ◌≤◌, ◌∷◌, IfSome, Some, length, map, option_and_then, string_bytes};
 ghost use Rattle.std.specs.Option.{option_map};
 ghost use Rattle.y86_words.specs.Arguments as spec;
@@ -14,7 +14,7 @@ enum Argument<'a> {
     Switch(OptionName, u64),
 }
 
-/// The first argument of a word and those behind it, and the words behind the argument.
+/// The first argument of some words, and the words after the argument. `behind` are the words after the first.
 #[tactic(auto, using(crate::proofs::Arguments::no_option, crate::proofs::Arguments::place_read, crate::proofs::Arguments::flag_read, crate::proofs::Arguments::empty_word, crate::proofs::Arguments::switch_alone, crate::proofs::Arguments::switch_refused, crate::proofs::Arguments::switch_read))]
 fn first_argument<'a>(word: &'a str, behind: &'a [String]) -> Option<(Argument<'a>, &'a [String])>
     ensures first { FirstArgument (word.now ∷ map string_bytes behind.now) (option_map split_in result) }
@@ -41,15 +41,15 @@ fn first_argument<'a>(word: &'a str, behind: &'a [String]) -> Option<(Argument<'
     }
 }
 
-/// What was found in the words behind a name: the words of the places, in order, and the number of each option that is
-/// there.
+/// The arguments collected from the words after a name: the words of the places, in order, and the number of each
+/// option that was given.
 #[derive(Drop)]
 pub struct FoundArguments<'a> {
     pub words: ArrayVec<&'a str, 3>,
     pub values: [Option<u64>; 6],
 }
 
-/// What was found and one more argument, where its place or option isn't taken yet.
+/// The collected arguments with another one, if its place or option isn't taken yet.
 fn added<'a>(found: FoundArguments<'a>, argument: Argument<'a>) -> Option<FoundArguments<'a>>
     ensures { option_map filled_in result ≡ spec.added (filled_in found.entry) (argument_in argument.entry) }
 {
@@ -72,7 +72,7 @@ fn added<'a>(found: FoundArguments<'a>, argument: Argument<'a>) -> Option<FoundA
     }
 }
 
-/// What is found in some words, where all of them are arguments and none stands twice.
+/// The arguments collected from words, if all words can be read and no option is given twice.
 pub fn found_in<'a>(words: &'a [String]) -> Option<FoundArguments<'a>>
     ensures { option_map filled_in result
         ≡ option_and_then (spec.all_added (Some spec.nothing_filled)) (spec.arguments (map string_bytes words.now)) }

@@ -1,4 +1,4 @@
-//! The commands that words can be.
+//! The commands that words can form.
 ghost use Rattle.std.specs.Prelude.{◌≡◌, IfOk, None, OnErr, Some, map, string_bytes};
 ghost use Rattle.std.specs.Option.{option_map};
 ghost use Rattle.y86_words.specs.Forms.{form_of};
@@ -19,7 +19,7 @@ pub enum Cmd<'a> {
         variant: Variant,
     },
     /// Runs an object file at the level of instructions. `mem` is the size of the memory in bytes, and `limit` the most
-    /// steps that are done.
+    /// steps.
     Yis {
         obj: &'a str,
         mem: u64,
@@ -30,8 +30,8 @@ pub enum Cmd<'a> {
     Hcl {
         hcl: &'a str,
     },
-    /// Runs an object file on SEQ under an HCL file. `mem` is the size of the memory in bytes, and `limit` the most cycles
-    /// that are done.
+    /// Runs an object file on SEQ under an HCL file. `mem` is the size of the memory in bytes, and `limit` the most
+    /// cycles.
     Ssim {
         hcl: &'a str,
         obj: &'a str,
@@ -47,8 +47,9 @@ pub enum Cmd<'a> {
         limit: u64,
         variant: Variant,
     },
-    /// Runs an object file on PIPE under an HCL file, as `Ssim` does on SEQ; with `trace` a line for each instruction that
-    /// retires; with `checked` the HCL file is checked first, as by `CheckPipe`, and run only where it is accepted.
+    /// Runs an object file on PIPE under an HCL file, as `Ssim` does on SEQ. With `trace` it prints a line for each
+    /// instruction that retires. With `checked` it first checks the HCL file, as `CheckPipe` does, and runs it only if
+    /// it is accepted.
     Psim {
         hcl: &'a str,
         obj: &'a str,
@@ -68,18 +69,18 @@ pub enum Cmd<'a> {
         hcl: &'a str,
         variant: Variant,
     },
-    /// Decides whether PIPE under an HCL file does what its instructions mean, for every program that doesn't store over
-    /// its own instructions.
+    /// Decides whether PIPE under an HCL file does what its instructions mean, for every program that doesn't store
+    /// over one of the next three instructions.
     CheckPipe {
         hcl: &'a str,
         variant: Variant,
     },
-    /// Decides the same, and writes a certificate of a Yes.
+    /// Decides the same, and writes a certificate if the file is accepted.
     CertifyPipe {
         hcl: &'a str,
         variant: Variant,
     },
-    /// Checks a certificate of a Yes, without a decision of its own.
+    /// Checks a certificate that a file is accepted, without deciding again.
     Recheck {
         hcl: &'a str,
         cert: &'a str,
@@ -97,12 +98,12 @@ pub enum Cmd<'a> {
         hcl: &'a str,
         variant: Variant,
     },
-    /// Counts for each output of an AIGER file the drawn inputs at which it is 1.
+    /// Counts, for each output of an AIGER file, the drawn inputs at which it is 1.
     Aigrun {
         aag: &'a str,
         seed: u64,
     },
-    /// Runs the generated program of this number of instructions at the level of instructions and on PIPE.
+    /// Runs the generated program with this number of instructions at the level of instructions and on PIPE.
     Big {
         number: u64,
         hcl: &'a str,
@@ -110,11 +111,11 @@ pub enum Cmd<'a> {
     },
 }
 
-/// Words that are no command.
+/// The words form no command.
 #[derive(Clone, Copy, Debug, PartialEq, Eq)]
 pub struct Usage;
 
-/// The command that the words behind the program's own name are, if any.
+/// The command that the words after the program's own name form, if any.
 #[tactic(auto, unfolding(crate::specs::Forms::form_of))]
 fn command_in_words<'a>(words: &'a [String]) -> Option<Cmd<'a>>
     ensures { option_map command_in result ≡ form_of (map string_bytes words.now) }
@@ -128,7 +129,7 @@ fn command_in_words<'a>(words: &'a [String]) -> Option<Cmd<'a>>
     }
 }
 
-/// The command that the words behind the program's own name are. It takes no memory.
+/// The command that the words after the program's own name form. It allocates no memory.
 #[tactic(auto, using(crate::proofs::Legal::form_legal))]
 pub fn words<'a>(words: &'a [String]) -> Result<Cmd<'a>, Usage>
     ensures command { IfOk result (λ command. form_of (map string_bytes words.now) ≡ Some (command_in command)) }

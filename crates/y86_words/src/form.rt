@@ -12,19 +12,19 @@ use crate::number::number_within;
 use crate::option::{OptionName, index_of};
 use y86_base::Variant;
 
-/// The size of the memory in bytes where `--mem` is absent.
+/// The size of the memory in bytes without `--mem`.
 const DEFAULT_SIZE: u64 = 8192;
 
-/// The most steps or cycles of a run where `--limit` is absent.
+/// The most steps or cycles of a run without `--limit`.
 const DEFAULT_LIMIT: u64 = 10_000;
 
-/// The most valuations that are drawn.
+/// The most valuations that `sample` draws.
 const MOST_DRAWN: u64 = 1_000_000;
 
-/// A number that draws begin with.
+/// The seed of a draw.
 const SEED: PlaceForm = PlaceForm::Number(0, u64::MAX);
 
-/// The most instructions of a generated program, but for the last, which halts.
+/// The most instructions of a generated program, apart from the last, which halts.
 const MOST_INSTRUCTIONS: u64 = 100_000;
 
 /// What a place of a form takes.
@@ -58,7 +58,7 @@ pub enum CommandKind {
     Big,
 }
 
-/// A form: the name of its command, the places behind it, in order, and the options, which stand anywhere behind the
+/// A form: the name of its command, the places after it, in order, and the options, which may occur anywhere after the
 /// name.
 #[derive(Clone, Copy, Debug)]
 struct Form {
@@ -130,7 +130,7 @@ static FORMS: [Form; 15] = [
         places: &[PlaceForm::Keyword("pipe"), PlaceForm::File],
         options: &[OptionName::Full],
     },
-    // Only with `--cert`: without it the words have the form above.
+    // Only with `--cert`: without it the row above fits.
     Form {
         kind: CommandKind::CertifyPipe,
         name: "check",
@@ -198,14 +198,14 @@ fn fits_places(places: &[PlaceForm], words: &[&str]) -> bool
     true
 }
 
-/// Whether an option is one of some.
+/// Whether a list has an option.
 fn has(options: &[OptionName], index: usize) -> bool
     ensures { result ≡ list_any (λ o. arguments.index_of o == index) options.now }
 {
     options.iter().any(|option| index_of(*option) == index)
 }
 
-/// The number of an option, where it is there.
+/// The number of an option, if the option was given.
 fn value_of(found: &FoundArguments<'_>, switch: OptionName) -> Option<u64>
     ensures { result ≡ get_or found.now.values (arguments.index_of switch) None }
 {
@@ -213,14 +213,14 @@ fn value_of(found: &FoundArguments<'_>, switch: OptionName) -> Option<u64>
     values[index_of(switch)]
 }
 
-/// Whether an option isn't there, or is one of the form's.
+/// Whether an option wasn't given, or is one of the form's.
 fn fits_switch(options: &[OptionName], found: &FoundArguments<'_>, switch: OptionName) -> bool
     ensures { result ≡ spec.fits_switch options.now found.now.values switch }
 {
     value_of(found, switch).is_none() || has(options, index_of(switch))
 }
 
-/// Whether a name and what was found behind it have a form.
+/// Whether a name and the collected arguments fit a form.
 fn fits(form: &Form, name: &str, found: &FoundArguments<'_>) -> bool
     ensures { result ≡ spec.fits (form_in form.now) name.now (filled_in found.now) }
 {
@@ -234,7 +234,7 @@ fn fits(form: &Form, name: &str, found: &FoundArguments<'_>) -> bool
             && fits_switch(form.options, found, OptionName::Cert))
 }
 
-/// The instruction set of a command: with `iaddq` where `--full` is there.
+/// The instruction set of a command: with `iaddq` if `--full` was given.
 fn variant_with(full: Option<u64>) -> Variant
     ensures { result ≡ spec.variant_with full }
 {
@@ -244,7 +244,7 @@ fn variant_with(full: Option<u64>) -> Variant
     }
 }
 
-/// The number in a place, where it is within a range.
+/// The number in a place, if it is within a range.
 fn number_at(found: &FoundArguments<'_>, at: usize, least: u64, most: u64) -> Option<u64>
     ensures { result ≡ spec.number_at least most at (filled_in found.now) }
 {
@@ -252,7 +252,7 @@ fn number_at(found: &FoundArguments<'_>, at: usize, least: u64, most: u64) -> Op
     number_within(word.as_bytes(), least, most)
 }
 
-/// The command of a row with what was found. An option that isn't there has its default.
+/// The command of a row with the collected arguments. An option that wasn't given has its default.
 fn built_command<'a>(kind: CommandKind, found: &FoundArguments<'a>) -> Option<Cmd<'a>>
     ensures { option_map command_in result ≡ spec.built_command kind (filled_in found.now) }
 {
@@ -343,7 +343,7 @@ fn built_command<'a>(kind: CommandKind, found: &FoundArguments<'a>) -> Option<Cm
     }
 }
 
-/// The command of the first of some forms that a name and what was found behind it have.
+/// The command of the first form that fits a name and the collected arguments.
 #[tactic(auto, unfolding(crate::specs::Forms::first_fit))]
 fn first_fit<'a>(forms: &[Form], name: &str, found: &FoundArguments<'a>) -> Option<Cmd<'a>>
     ensures { option_map command_in result ≡ spec.first_fit (map form_in forms.now) name.now (filled_in found.now) }
@@ -356,7 +356,7 @@ fn first_fit<'a>(forms: &[Form], name: &str, found: &FoundArguments<'a>) -> Opti
     None
 }
 
-/// The command of a name and what was found behind it.
+/// The command of a name and the collected arguments.
 pub fn command_of<'a>(name: &str, found: &FoundArguments<'a>) -> Option<Cmd<'a>>
     ensures { option_map command_in result ≡ spec.first_fit spec.forms name.now (filled_in found.now) }
 {

@@ -1,12 +1,12 @@
-//! Theorems about the words of a call. Each is a function that does nothing and whose contract is the theorem.
+//! Theorems about the command line. Each is a function that does nothing and whose contract is the theorem.
 ghost use Rattle.std.specs.Prelude.{◌≡◌, ◌∷◌, ◌++◌, List, [], ℕ, Some, codes};
 ghost use Rattle.y86_base.specs.declared.parts.Variant.TheVariants.{Base};
 ghost use Rattle.y86_words.specs.Forms.{Command, form_of, yas, yis};
 ghost use Rattle.y86_words.specs.Wording.{AreArguments, AreOptions, HasForm, IsFileName, IsInRange, words_of};
 
-/// Which words are a command. Words are only legal commands, each legal command has words, and words that are a command have
-/// the name, the places and the options of its row, each option at most once. Options may stand anywhere behind the name.
-/// Without options their defaults hold.
+/// Which words form a command. Words form only legal commands, each legal command can be written as words, and words
+/// that form a command have the name, the places and the options of its row, each option at most once. Options may
+/// occur anywhere after the name. A missing option has its default.
 pub fn law_of_words()
     ensures legal { (words : List (List ℕ)) (command : Command) → form_of words ≡ Some command → IsInRange command }
     ensures written { (command : Command) → IsInRange command → form_of (words_of command) ≡ Some command }

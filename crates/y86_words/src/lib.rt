@@ -1,4 +1,5 @@
-//! The words of a call: the forms of the commands, the places and options of each, and which words are which command.
+//! The command line of `y86`: the forms of the commands, the places and options of each, and which words form which
+//! command.
 #![tactic(auto)]
 
 mod argument;

@@ -1,4 +1,4 @@
-//! Numbers as the words of a call write them.
+//! Numbers as they are written on the command line.
 ghost use Rattle.std.specs.Prelude.{◌≡◌};
 ghost use Rattle.std.specs.List.{list_all};
 ghost use Rattle.y86_base.specs.Image.{is_image_size};
@@ -14,7 +14,7 @@ fn is_decimal_text(text: &[u8]) -> bool
     text.iter().all(|byte| is_decimal(*byte))
 }
 
-/// The number that a word writes: 1 to 20 decimal digits with a value below 2^64.
+/// The number that a word denotes: 1 to 20 decimal digits with a value below 2^64.
 fn number_of(word: &[u8]) -> Option<u64>
     ensures { result ≡ spec.number_of word.now }
 {
@@ -24,7 +24,7 @@ fn number_of(word: &[u8]) -> Option<u64>
     number_in_base(10, word)
 }
 
-/// The size of a memory in bytes that a word writes, where an image takes it.
+/// The size of a memory in bytes that a word denotes, if an image can have this size.
 pub fn image_size(word: &[u8]) -> Option<u64>
     ensures { result ≡ spec.number_that is_image_size word.now }
 {
@@ -36,7 +36,7 @@ pub fn image_size(word: &[u8]) -> Option<u64>
     }
 }
 
-/// The number from `least` to `most` that a word writes.
+/// The number from `least` to `most` that a word denotes.
 pub fn number_within(word: &[u8], least: u64, most: u64) -> Option<u64>
     ensures { result ≡ spec.number_within least most word.now }
 {

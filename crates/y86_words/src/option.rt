@@ -18,11 +18,11 @@ pub enum OptionName {
     Trace,
     /// `--checked`: the control logic is checked before the run.
     Checked,
-    /// `--cert`: a Yes is written as a certificate.
+    /// `--cert`: a certificate is printed instead of a `yes`.
     Cert,
 }
 
-/// Where the number of an option is kept.
+/// The slot for the number of an option.
 pub fn index_of(switch: OptionName) -> usize
     ensures index { result ≡ spec.index_of switch }
     ensures below { result ≤ 5 }
@@ -37,7 +37,7 @@ pub fn index_of(switch: OptionName) -> usize
     }
 }
 
-/// The option that a word is.
+/// The option with this name.
 pub fn switch_of(word: &str) -> Option<OptionName>
     ensures { result ≡ spec.switch_of word.now }
 {
@@ -72,7 +72,7 @@ pub fn takes_number(switch: OptionName) -> bool
     }
 }
 
-/// The number for an option that a word writes, where the option takes it.
+/// The number for an option that a word denotes, if the option takes it.
 pub fn number_for(switch: OptionName, word: &[u8]) -> Option<u64>
     ensures { result ≡ option_and_then (λ passes. number_that passes word.now) (spec.takes switch) }
 {
