@@ -1,5 +1,5 @@
--- What one cycle of a sequential datapath does with the values of its signals (CS:APP 3e, section 4.3.4). r says where they stand, and f
--- gives the value of each row of the table.
+-- What one cycle of a sequential datapath does with the values of its signals (CS:APP 3e, section 4.3.4). r gives the
+-- row of each signal, and f gives the value of each row of the table.
 use Rattle.std.specs.Prelude.{ℕ, ◌==◌, List, Option, if◌then◌else◌}
 use Rattle.y86_base.specs.Registers.{register}
 use Rattle.y86_base.specs.Stat.{stat_of}
@@ -41,7 +41,7 @@ block_by r v m n f =
     else (if n == r.imem_error then bit (reading v m.mem m.pc).error
     else fetched_by r m n f))
 
--- the store of the cycle: mem_data at mem_addr, where mem_write asks for it and no error is told
+-- the store of the cycle: mem_data at mem_addr, if mem_write requests it and there is no error
 abbrev pub store_by : SignalRows → (ℕ → ℕ) → Option Store
 store_by r f = data_store (f r.mem_addr) (f r.mem_data) (set (f r.mem_write)) (set (f r.dmem_error))
 
@@ -71,8 +71,8 @@ record_by r pc flags f =
       stat = stat_of (f r.stat);
     })
 
--- the machine after a cycle on the machine m, which leads to this PC where its Stat is AOK: with another Stat nothing changes but the
--- status
+-- the machine after a cycle on the machine m, which leads to this PC if its Stat is AOK; with another Stat, only the
+-- status changes
 abbrev pub stepped : SignalRows → Machine → (ℕ → ℕ) → ℕ → Machine
 stepped r m f pc =
     if f r.stat == 1 then

@@ -40,7 +40,7 @@ traced_off trace rs e = ap (λ b. traced b rs) e
 pub traced_on : (trace : Bool) (r : Rec) → trace ≡ true → traced trace (r ∷ []) ≡ trace_line r
 traced_on trace r e = ap (λ b. traced b (r ∷ [])) e ∙ traced_one r
 
--- what a drive has done: k cycles, before each of which the machine went on, and the lines of what retired
+-- a drive so far: k cycles, before each of which the machine went on, and the lines of the records that retired
 pub record Driven (p : PipeMachine) (k : ℕ) (q : PipeMachine) (trace : Bool) (old new : Option (List ℕ)) (retired : ℕ) : Type 0 where
   pub records : List Rec
   pub goes : CallsFor p k q records
