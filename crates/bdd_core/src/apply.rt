@@ -18,7 +18,7 @@ pub struct OperandSplit {
     pub high_right: u32,
 }
 
-/// The result of an operation that needs no look at the nodes, if it is such a one.
+/// The result of an operation, if it can be found without a look at the nodes.
 fn settled(key: OpKey) -> Option<u32>
     ensures settled { IfSome result (IsSettled key) }
     ensures open { IfNone result (2 ≤ key.left) }
