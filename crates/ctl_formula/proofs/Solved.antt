@@ -1,4 +1,4 @@
--- Control values exist where there is an order, and there is one assignment of them; beside a real cycle's values they agree.
+-- Control values exist and are unique if there is an order; and they agree with a real cycle's values.
 use Rattle.std.proofs.Common.{◌≡◌, ℕ, Bool, true, false, not, List, [], ◌∷◌, Option, Some, None, slice_get, nat_eq, nat_lt, refl, sym, ap, ◌∙◌, subst, arith}
 use Rattle.std.proofs.lemmas.Bool.Decides.{nat_tests}
 use Rattle.std.specs.List.{AllByRecursion}

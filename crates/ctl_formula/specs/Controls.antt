@@ -13,15 +13,15 @@ use Rattle.ctl_atoms.specs.declared.leaf.Leaf.TheVariants.{Name, Number}
 use Rattle.ctl_atoms.specs.Leaves.{Assignment, leaf_meaning}
 use Rattle.ctl_atoms.specs.Rows.{row_term}
 
--- what state or hardware is: a Value name is itself, each other name is the number of its field
+-- the leaf of a row of state or hardware: a Value name is itself, each other name is the number of its field
 abbrev pub field_leaf : (ℕ → ℕ) → ℕ → Class → Leaf
 field_leaf field n class.Number = Name n
 field_leaf field n class.Code = Number (field n)
 field_leaf field n class.Truth = Number (field n)
 field_leaf field n class.Value = Name n
 
--- What a row is: a constant is its number, state and hardware are their fields, a defined row is what its term is where comparisons
--- are answered by α and each name is what cv says. What stands past the rows is 0.
+-- The control value of a row: a constant's is its number, those of state and hardware are their fields, and a defined
+-- row's is that of its term, with comparisons answered by α and names by cv. Past the rows it is 0.
 abbrev pub role_leaf : (ℕ → ℕ) → ℕ → Class → Role → Leaf → Leaf
 role_leaf field n class (role.Constant k) told = Number k
 role_leaf field n class role.State told = field_leaf field n class

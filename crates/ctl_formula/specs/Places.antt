@@ -9,7 +9,7 @@ use Rattle.hcl_types.specs.declared.table.Row.{Row}
 use Rattle.net_fields.specs.Spelling.{spelt}
 use Rattle.ctl_formula.specs.declared.controls.Place.{Place}
 
--- the first place in the list that is of the name
+-- the first place in the list with this name
 abbrev pub place_of : List Place → ℕ → Option Place
 place_of [] n = None
 place_of (p ∷ ps) n = if p.name == n then Some p else place_of ps n
@@ -36,7 +36,7 @@ are_placed places n (row ∷ rows) = (not (is_field row.role && has_bits row.cla
 abbrev pub IsInside : ℕ → Place → Type 0
 IsInside vars p = (p.bits ≤ 4) × (p.first + p.bits ≤ vars)
 
--- each Code or Truth name that is state or hardware has a place, and each place is of at most 4 of the variables
+-- each Code or Truth name of the state or the hardware has a place, and each place has at most 4 of the variables
 pub record HavePlaces (rows : List Row) (places : List Place) (vars : ℕ) : Type 0 where
   pub placed : IsTrue (are_placed places 0 rows)
   pub inside : AllByRecursion (IsInside vars) places

@@ -14,8 +14,8 @@ pub struct Pick {
     pub gate: u64,
 }
 
-/// Where the bits of a Code or Truth name that is state or hardware stand among the variables: `bits` of them from `first`
-/// on, the most significant one first.
+/// The place of a Code or Truth name of the state or the hardware among the variables: its `bits` bits from `first` on,
+/// the most significant one first.
 #[derive(Clone, Copy, Debug, PartialEq, Eq)]
 pub struct Place {
     pub name: NameId,
@@ -23,7 +23,7 @@ pub struct Place {
     pub bits: u32,
 }
 
-/// What is known of the control value of a name: nothing, the gate of its truth, or its picks.
+/// The gates made for the control value of a name: none yet, the gate of its truth, or its picks.
 #[derive(Debug, Drop)]
 pub enum Entry {
     Absent,
@@ -47,7 +47,7 @@ impl Model for Controls {
 }
 
 impl Controls {
-    /// The control values of names, name by name.
+    /// The control values with these entries, name by name.
     pub(crate) fn of(entries: Items<Entry>) -> Controls
         ensures { result ≡ entries }
     {

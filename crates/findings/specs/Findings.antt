@@ -1,4 +1,4 @@
--- What is found of signals at a valuation. The definitions are those of the rows from a first one on.
+-- Findings on signals at a valuation. The definitions are those of the rows from a first one on.
 use Rattle.std.specs.Prelude.{ℕ, ◌-◌, Bool, List, Option, slice_get}
 use Rattle.std.specs.Option.{option_and_then}
 use Rattle.hcl_types.specs.Lists.{each}

@@ -17,7 +17,7 @@ use Rattle.seq_plus.specs.PlusRun.{IsPlusCycle}
 use Rattle.seq_plus.specs.Told.{TellsCycle}
 use Rattle.seq_plus.specs.declared.state.PlusState.{PlusState}
 
--- the state after a cycle with this status, where the cycle changes anything
+-- the state after a cycle with this status, if the cycle changes anything
 abbrev pub updated : PlusState → (ℕ → ℕ) → Stat → PlusState
 updated t f stat =
     record {
@@ -48,7 +48,7 @@ module _ (t : PlusState) (f : ℕ → ℕ) where
   normal_ifun true r e = rw e refl
   normal_ifun false r e = rw e refl
 
-  -- the record before it is brought to its normal form
+  -- the record before normalization
   abbrev raw : Rec
   raw =
       record {

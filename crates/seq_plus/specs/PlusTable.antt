@@ -1,5 +1,5 @@
--- SEQ+'s table of signals (CS:APP 3e, section 4.5.1, figure 4.40): that of SEQ, but the file defines pc in the place of new_pc, and the
--- state holds what the instruction before left.
+-- SEQ+'s table of signals (CS:APP 3e, section 4.5.1, figure 4.40): that of SEQ, but the file defines pc in place of
+-- new_pc, and the state holds what the previous instruction left.
 use Rattle.std.specs.Prelude.{List, [], ◌∷◌, ◌++◌, codes}
 use Rattle.hcl_types.specs.declared.table.Class.TheVariants.{Code, Value, Truth}
 use Rattle.hcl_types.specs.declared.table.Role.TheVariants.{State, Defined}
@@ -17,7 +17,7 @@ plus_state =
     signal Value State (codes "pValC") ∷
     signal Value State (codes "pValP") ∷ []
 
--- what hardware computes, with the rows that it depends on: pc is one of them for all that is read
+-- what hardware computes, with the rows that it depends on: pc is one of them for everything that is fetched
 unfoldable pub plus_hardware : List Row
 plus_hardware = hardware_rows plus (plus.pc ∷ [])
 
