@@ -27,7 +27,6 @@ pub struct CachedResult {
     pub answer: u32,
 }
 
-/// Whether two operations are the same.
 fn same(a: OpKey, b: OpKey) -> bool
     ensures { result ≡ true → a ≡ b }
 {

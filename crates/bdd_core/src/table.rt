@@ -15,7 +15,6 @@ pub enum Lookup {
     Full,
 }
 
-/// Whether two nodes are the same.
 fn same(a: ChoiceNode, b: ChoiceNode) -> bool
     ensures { result ≡ same_node a b }
 {

@@ -82,7 +82,7 @@ leaf_cmp α = by_op (leaf_lt α) (leaf_same α) not
 abbrev pub leaf_holds : Assignment → Leaf → Bool
 leaf_holds α x = not (leaf_same α x (Number 0))
 
--- terms as the leaf or constant that they pick, comparisons by atoms
+-- the meaning of a term is the leaf or constant that it picks, with comparisons decided by atoms
 abbrev pub leaf_meaning : Assignment → Interpretation Leaf
 leaf_meaning α = record {
   num = Number;
@@ -100,6 +100,6 @@ abbrev pub is_listed : List Atom → Option Atom → Bool
 is_listed atoms None = true
 is_listed atoms (Some a) = has_atom atoms a
 
--- bits give the atoms, from bit `first` on, the truths of α
+-- the bits from `first` on are the truths that α gives the atoms
 abbrev pub AtomsAre : List Atom → ℕ → List Bool → Assignment → Type 0
 AtomsAre atoms first bits α = (k : ℕ) (a : Atom) → slice_get atoms k ≡ Some a → get_or bits (first + k) false ≡ α a.kind a.left a.right

@@ -10,7 +10,6 @@ use hcl_types::{NameId, Term, TermBranch};
 use std::alloc::{AllocError, Global};
 use y86_base::Items;
 
-/// Whether a leaf is in the list.
 fn has_leaf(leaves: &[Leaf], leaf: Leaf) -> bool
     ensures { result ≡ plans.has_leaf leaves.now leaf }
 {

@@ -12,7 +12,6 @@ use hcl_types::{CmpOp, Term, TermBranch};
 use std::alloc::{AllocError, Global};
 use y86_base::Items;
 
-/// Whether an atom is in the list.
 fn has_atom(atoms: &[Atom], atom: Atom) -> bool
     ensures { result ≡ leaves.has_atom atoms.now atom }
 {

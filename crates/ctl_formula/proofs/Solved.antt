@@ -41,7 +41,7 @@ pub controls_unique : (rows : List Row) (terms : List Term) (ids : List ℕ) (fi
 controls_unique rows terms ids field α o cv other h h' =
     unique (needs rows terms) (known rows) ids o (control_rule rows terms field α) (rule_local rows terms field α) (rule_known rows terms field α) cv other h h'
 
--- ---- leaves and words alike
+-- ---- properties that leaves and words share
 
 not_below : (x : ℕ) → signed_below x x ≡ false
 not_below x = grind (arith, nat_tests)

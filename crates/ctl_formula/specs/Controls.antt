@@ -32,7 +32,7 @@ abbrev pub row_leaf : (ℕ → ℕ) → ℕ → Option Row → Leaf → Leaf
 row_leaf field n None told = Number 0
 row_leaf field n (Some row) told = role_leaf field n row.class row.role told
 
--- the equation of row n; field: the number of each Code or Truth name that is state or hardware
+-- the equation of row n; field gives the number of each Code or Truth name of the state or the hardware
 unfoldable pub control_rule : List Row → List Term → (ℕ → ℕ) → Assignment → ℕ → (ℕ → Leaf) → Leaf
 control_rule rows terms field α n cv = row_leaf field n (slice_get rows n) (value (leaf_meaning α) cv (row_term rows terms n))
 

@@ -28,7 +28,7 @@ abbrev pub leaf_value : (ℕ → ℕ) → Leaf → ℕ
 leaf_value f (Name n) = f n
 leaf_value f (Number n) = n
 
--- the comparisons of values
+-- the truths of atoms, by the values of names
 abbrev pub real_assignment : (ℕ → ℕ) → Assignment
 real_assignment f kind.Lt x y = signed_below (leaf_value f x) (leaf_value f y)
 real_assignment f kind.Eq x y = nat_eq (leaf_value f x) (leaf_value f y)

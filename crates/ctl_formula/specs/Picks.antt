@@ -50,7 +50,7 @@ gate_of ctl n = entry_gate (slice_get ctl n)
 abbrev pub picks_of : List Entry → ℕ → List Pick
 picks_of ctl n = entry_picks (slice_get ctl n)
 
--- each Truth name of the table has a gate, and each other name picks
+-- each Truth name of the table has a gate, and each other name has picks
 pub record Covers (rows : List Row) (ctl : List Entry) : Type 0 where
   pub gates : (n : ℕ) → has_gate ctl n ≡ (kinds_of_row (slice_get rows n)).truth
   pub picks : (n : ℕ) → has_picks ctl n ≡ (kinds_of_row (slice_get rows n)).word

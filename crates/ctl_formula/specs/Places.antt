@@ -14,7 +14,7 @@ abbrev pub place_of : List Place → ℕ → Option Place
 place_of [] n = None
 place_of (p ∷ ps) n = if p.name == n then Some p else place_of ps n
 
--- a class whose names of the state and the hardware are bits
+-- names of this class have bits if they are state or hardware
 abbrev pub has_bits : Class → Bool
 has_bits class.Number = false
 has_bits class.Code = true
@@ -27,12 +27,12 @@ is_field role.State = true
 is_field (role.Hardware ids) = true
 is_field role.Defined = false
 
--- a row whose name is bits has a place; n: the first of the rows
+-- each row whose name has bits has a place; n is the number of the first row
 abbrev pub are_placed : List Place → ℕ → List Row → Bool
 are_placed places n [] = true
 are_placed places n (row ∷ rows) = (not (is_field row.role && has_bits row.class) || is_some (place_of places n)) && are_placed places (n + 1) rows
 
--- at most 4 of the variables
+-- a place has at most 4 bits, all of them among the first vars variables
 abbrev pub IsInside : ℕ → Place → Type 0
 IsInside vars p = (p.bits ≤ 4) × (p.first + p.bits ≤ vars)
 

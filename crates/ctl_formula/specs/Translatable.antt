@@ -73,7 +73,7 @@ translatable es atoms = fold-Term Translatable (Translatable × Translatable) (r
 abbrev pub branch_ready : List Entry → List Atom → TermBranch → Translatable × Translatable
 branch_ready es atoms = fold-TermBranch Translatable (Translatable × Translatable) (ready_layer es atoms) ready_pair
 
--- an entry is of a class, and its picks have these leaves
+-- an entry fits a class, and its picks have these leaves
 pub record IsEntryOf (class : Class) (leaves : List Leaf) (e : Entry) : Type 0 where
   pub truth : entry_truth (Some e) ≡ is_truth class
   pub word : entry_word (Some e) ≡ not (is_truth class)

@@ -24,7 +24,6 @@ use nets::NetBuilder;
 use std::alloc::Global;
 use y86_base::{Items, Memory};
 
-/// The place of a name.
 fn find_place(places: &[Place], name: NameId) -> Place
     requires { IsTrue (is_some (place_of places.now name)) }
     ensures { place_of places.now name ≡ Some result }

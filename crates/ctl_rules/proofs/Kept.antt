@@ -82,7 +82,7 @@ pub eq_if : (b : Bool) (x y z : Leaf) → (if b then leaf_eq x y else leaf_eq x 
 eq_if true x y z = refl
 eq_if false x y z = refl
 
--- a gate that one of a signal's picks has the wanted leaf and is taken
+-- a gate that is true if one of a signal's picks has the wanted leaf and is taken
 pub asked_picks : {old new : Gates} {ctl : List Entry} {name g : ℕ} {ps : List Pick} (want : ExpectedLeaf) → ExtendsNet old new → IsInside old ctl → IsTrue (has_picks ctl name) → ps ≡ picks_of ctl name
     → IsGate new g (λ w. some_pick old w (λ leaf. leaf_eq leaf (leaf_expected w want)) ps) → IsControlGate new ctl g (λ w α cv. picks_leaf cv name (leaf_expected w want))
 asked_picks {old} {new} {ctl} {name} {g} {ps} want k i has e m = record {
@@ -92,6 +92,6 @@ asked_picks {old} {new} {ctl} {name} {g} {ps} want k i has e m = record {
       ∙ (tells_less k i t).picks_are name has (λ leaf. leaf_eq leaf (leaf_expected w want)));
 }
 
--- the number of four bits
+-- the number that four bits spell is below 16
 pub spelt_code : (w : List Bool) (first bits : ℕ) → bits ≡ 4 → spelt w first bits < 16
 spelt_code w first bits e = rw e (spelt_lt w first 4)

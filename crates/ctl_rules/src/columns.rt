@@ -1,4 +1,4 @@
-//! Gates of what the columns of a row demand of signals.
+//! Gates of what the columns of a row demand of signals. A gate is true exactly if its function's comment is.
 ghost use Rattle.std.specs.Prelude.{◌≡◌, ◌<◌, ◌≤◌, ◌+◌, false, if◌then◌else◌, length, IfOk, IsTrue};
 ghost use Rattle.nets.specs.Nets.{ExtendsNet, truth};
 ghost use Rattle.y86_base.specs.Stat.{stat_number};

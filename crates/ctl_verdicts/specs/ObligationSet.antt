@@ -72,7 +72,7 @@ IsVerdict q terms None = MeetsObligationSet q terms
 IsVerdict q terms (Some f) =
     (MeetsObligationSet q terms → ⊥) × (atoms : List Atom) × AreAtoms q.rows terms atoms × IsLeastFalseOf q terms atoms f.rule f.valuation.bits
 
--- the cause says why a design has no control values; out of memory is a fault of its own
+-- the fault of the design's control values; running out of memory is a fault of its own
 abbrev pub IsFault : List Row → List Term → CheckFault → Type 0
 IsFault rows terms (fault.Ctl f) = IsCtlFault rows terms f × (f ≢ ctl.Memory)
 IsFault rows terms fault.Memory = Unit {0}

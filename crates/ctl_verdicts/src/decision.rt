@@ -17,7 +17,6 @@ pub struct FailedRule {
     pub valuation: Valuation,
 }
 
-/// The gates of rules.
 fn gates_of(alloc: Global, list: &[Rule]) -> Result<Vec<u64>, Memory>
     ensures { IfOk result (λ gates. AreTheirGates list.now gates.items) }
 {

@@ -14,7 +14,7 @@ use Rattle.y86_isa.specs.declared.machine.Store.{Store}
 use Rattle.dp_signals.specs.Values.{bit}
 use Rattle.dp_signals.specs.declared.sequential_rows.SignalRows.{SignalRows}
 
--- the value of a hardware row where a cycle works on the machine m: the register file, the ALU and the condition, data memory
+-- the value of a hardware row in a cycle on the machine m: the register file, the ALU and the condition, data memory
 unfoldable pub worked_by : SignalRows → Machine → ℕ → (ℕ → ℕ) → ℕ
 worked_by r m n f =
     if n == r.val_a then register m.regs (f r.src_a)
@@ -24,7 +24,7 @@ worked_by r m n f =
     else (if n == r.val_m then data_read m.mem (f r.mem_addr) (set (f r.mem_read))
     else bit (data_error m.mem (f r.mem_addr) (set (f r.mem_read)) (set (f r.mem_write)))))))
 
--- before those, the fetched fields and words
+-- the same, with the fetched fields and words before those
 unfoldable pub fetched_by : SignalRows → Machine → ℕ → (ℕ → ℕ) → ℕ
 fetched_by r m n f =
     if n == r.r_a then field_a m.mem m.pc (set (f r.need_regids))
@@ -33,7 +33,7 @@ fetched_by r m n f =
     else (if n == r.val_p then behind m.pc (set (f r.need_regids)) (set (f r.need_val_c))
     else worked_by r m n f)))
 
--- before those, instruction memory at the PC
+-- the same, with instruction memory at the PC before those
 unfoldable pub block_by : SignalRows → Variant → Machine → ℕ → (ℕ → ℕ) → ℕ
 block_by r v m n f =
     if n == r.imem_icode then (reading v m.mem m.pc).icode

@@ -39,7 +39,7 @@ pub record IsCall {S : Type 0} (path : SequentialPath S) (p : MachineView S) (r 
 abbrev pub CallsOn : {S : Type 0} → SequentialPath S → MachineView S → ℕ → MachineView S → List Rec → Type 0
 CallsOn path = IsAfter (IsCall path)
 
--- what is true of every machine: the design is bound to the table, and the order is one of both
+-- what is true of every machine: the design is bound to the table, and the order is one of this design
 pub record IsOfTable (table : List Row) (terms : List Term) (order : List ℕ) : Type 0 where
   pub bound : IsBound table terms
   pub ordered : IsOrderOf table terms order

@@ -61,7 +61,8 @@ fn worked(rows: &SignalRows, m: End<'_>, row: NameId, values: &[u64]) -> u64
     }
 }
 
-/// The value of the hardware in a row: a fetched field after the first byte, or a row of a later stage.
+/// The value of the hardware in a row: a field or word of the fetch stage after the first byte, or a row of a later
+/// stage.
 #[tactic(auto, unfolding(crate::specs::Cycle::fetched_by))]
 #[inline(always)]
 fn fetched(rows: &SignalRows, m: End<'_>, row: NameId, values: &[u64]) -> u64
@@ -127,7 +128,7 @@ impl<'a, S: Sequential> Units<'a, S> {
         }
     }
 
-    /// What the bytes at `pc` read as.
+    /// How the bytes at `pc` decode.
     #[inline(always)]
     fn read(&mut self, pc: u64) -> Reading
         ensures read { result ≡ isa.reading self.old.variant (S.path.mem self.old.state) pc }

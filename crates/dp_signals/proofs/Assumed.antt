@@ -18,13 +18,13 @@ pub starts_set : (words xs : List ℕ) (n w : ℕ) → Starts words xs → lengt
 starts_set words xs n w h le =
     (slice_set h.0 (n - length words) w, ap (λ ys. slice_set ys n w) h.1 ∙ set-append_right words h.0 (length words) n w refl le)
 
--- words with which the constants begin may be assumed of all values over what is given
+-- words with which the constants begin may be assumed for all values that begin with the given ones
 pub may_assume : (words constants state given rest values : List ℕ) → Starts words constants → given ≡ constants ++ state → values ≡ given ++ rest → MayAssume words given values
 may_assume words constants state given rest values h e k =
     let first : Starts words given = rw e (starts_more words constants state h) in
     (rw k (starts_more words given rest first), starts_short words given first)
 
--- ---- what is given stays while rows are computed
+-- ---- the given values stay while rows are computed
 
 pub over_set : (given : List ℕ) (rows : ℕ) (xs : List ℕ) (n w : ℕ) → IsOver given rows xs → length given ≤ n → IsOver given rows (slice_set xs n w)
 over_set given rows xs n w h le = (

@@ -40,7 +40,6 @@ pub fn is_number(leaves: &[Leaf], n: NameId, number: u64) -> bool
     same_leaf(leaf_at(leaves, n), Leaf::Number(number))
 }
 
-/// Whether a signal meets a requirement.
 fn meets(scope: &Scope<'_>, requirement: Requirement) -> bool
     requires { scope.now.first ≤ 1000 }
     ensures { result ≡ is_met (assigned scope.now.atoms.now scope.now.first scope.now.bits.now) (at scope.now.leaves.now) requirement }
@@ -63,7 +62,6 @@ fn case_of(scope: &Scope<'_>, terms: &[Term], defined: NameId, id: NameId) -> Op
     }
 }
 
-/// The finding on a requirement.
 fn finding_of(
     scope: &Scope<'_>,
     terms: &[Term],

@@ -1,4 +1,5 @@
-//! Gates for the numbers that the fields of an instruction can have, given its icode.
+//! Gates for the numbers that the fields of an instruction can have, given its icode. Each function returns a gate that
+//! is true exactly if the function's comment is.
 ghost use Rattle.std.specs.Prelude.{◌≡◌, ◌<◌, ◌≤◌, ◌+◌, ◌==◌, ◌&&◌, ◌||◌, not, nat_le, length, IfOk};
 ghost use Rattle.nets.specs.Nets.{ExtendsNet, IsGate, truth};
 ghost use Rattle.net_fields.specs.AllowedNumbers as spec;
@@ -86,7 +87,7 @@ pub fn cnd_allowed_where(
     choose(b, live, fits, clear)
 }
 
-/// A register field of the register byte.
+/// The field can be a register field of the register byte.
 pub fn register_field_allowed(
     b: &mut NetBuilder,
     has_byte: bool,
@@ -106,7 +107,7 @@ pub fn register_field_allowed(
     b.constant(true)
 }
 
-/// The number of the register that a column names.
+/// The field can be the number of the register that a column names.
 pub fn register_allowed(
     b: &mut NetBuilder,
     field: RegisterColumn,
@@ -142,7 +143,7 @@ pub fn shares_register(
     }
 }
 
-/// The destination of valE after the condition.
+/// The field can be the destination of valE after the condition.
 pub fn destination_allowed(
     b: &mut NetBuilder,
     row: &Row,
@@ -163,7 +164,7 @@ pub fn destination_allowed(
     choose(b, lost, none, register)
 }
 
-/// The fetched icode and ifun: a nop if there is an error, else an icode with an ifun that it takes.
+/// The fields can be a fetched icode and ifun: a nop if there is an error, else an icode with an ifun that it takes.
 pub fn reading_allowed(
     b: &mut NetBuilder,
     count: u64,
@@ -220,7 +221,7 @@ fn blank_outside(b: &mut NetBuilder, stat: BitRange, ifun: BitRange) -> Result<u
     implies(b, outside, zero)
 }
 
-/// Status and ifun of an instruction of this icode after its fetch.
+/// The fields can be the status and ifun of an instruction of this icode after its fetch.
 pub fn codes_allowed(
     b: &mut NetBuilder,
     count: u64,

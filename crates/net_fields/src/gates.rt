@@ -1,4 +1,5 @@
-//! Gates of fields: a field is a number, is below it, is another field.
+//! Gates that compare fields with numbers and with one another. Each function returns a gate that is true exactly if
+//! the function's comment is.
 ghost use Rattle.std.specs.Prelude.{◌≡◌, ◌<◌, ◌≤◌, ◌+◌, ◌==◌, ◌||◌, not, nat_lt, length, get_or, false, IfOk};
 ghost use Rattle.nets.specs.Nets.{ExtendsNet, IsGate, agree, truth};
 ghost use Rattle.net_fields.specs.Spelling.{spelt};

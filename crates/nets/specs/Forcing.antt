@@ -1,4 +1,4 @@
--- The variables that have one value wherever one of some gates is false.
+-- The variables that have one value wherever any of the given gates is false.
 use Rattle.std.specs.Prelude.{ℕ, ◌<◌, Bool, true, false, List, ◌≡◌, length, get_or}
 use Rattle.nets.specs.Nets.{Gates, truth}
 use Rattle.nets.specs.Substitution.{AreSources, source_truth}

@@ -1,4 +1,4 @@
-//! The pipelined machine.
+//! The pipelined machine: one call, one cycle.
 ghost use Rattle.std.specs.Prelude.{◌≡◌, ◌<◌, ◌^◌, ◌+◌, ◌≤◌, Option, Some, None, IfSome, if◌then◌else◌, length};
 ghost use Rattle.std.specs.Option.{option_to_list};
 ghost use Rattle.y86_base.specs.Stat.{stat_of};

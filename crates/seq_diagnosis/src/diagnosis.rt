@@ -15,7 +15,7 @@ use seq_requirements::{bit_count, first_defined, requirements_of, spots_of, tabl
 use std::alloc::Global;
 use y86_base::{Items, Memory};
 
-/// The signals that are wrong at a valuation, among all that the obligation is about.
+/// The diagnosis of a valuation: every control value, and a finding for each signal that the obligation is about.
 #[derive(Drop)]
 pub struct Diagnosis {
     /// The control value of each row of the table.

@@ -1,4 +1,5 @@
--- A cycle of SEQ+ works on the machine at the PC that the file computes, and what its record says, under any file.
+-- Under any file, a cycle of SEQ+ works on the machine at the PC that the file computes, and its record reports what it
+-- changes.
 use Rattle.std.proofs.Common.{◌≡◌, ℕ, ◌==◌, Bool, true, false, cond, List, Option, Some, IfSome, refl, sym, ap, subst}
 use Rattle.y86_base.specs.Stat.{stat_of}
 use Rattle.y86_base.specs.declared.parts.Stat.{Stat}

@@ -27,7 +27,6 @@ pub enum SeqAnswer {
     No(Refusal),
 }
 
-/// The rules of a design.
 fn rules_of(
     alloc: Global,
     which: Datapath,
@@ -57,7 +56,6 @@ fn decide_one(alloc: Global, net: &Net, rule: Rule) -> Result<Option<FailedRule>
     decide(alloc, net, &one)
 }
 
-/// The rule at a place.
 fn rule_at(list: &[Rule], k: usize) -> Rule
     requires { k < length list.now }
     ensures { slice_get list.now k ≡ Some result }
