@@ -1,6 +1,6 @@
 -- Ordered decision diagrams over shared nodes, and their truth (Bryant, Graph-based algorithms for Boolean function
--- manipulation, 1986). Number 0 is the diagram of falsehood, number 1 that of truth; node k of the list has number k +
--- 2. Both ends come after all variables, and lead to themselves.
+-- manipulation, 1986). Number 0 is the diagram of falsehood, number 1 that of truth; node k of the list has the number
+-- k + 2. Both ends come after all variables, and lead to themselves.
 use Rattle.std.specs.Prelude.{ℕ, zero, suc, ◌+◌, ◌<◌, ◌≤◌, Bool, false, cond, List, ◌∷◌, ◌≡◌, length, get_or, nat_eq}
 use Rattle.bdd_core.specs.declared.nodes.ChoiceNode.{ChoiceNode}
 

@@ -13,7 +13,7 @@ pub record IsDecided (n : Gates) (gate : ℕ) (b : Bool) : Type 0 where
   pub yes : b ≡ true → IsAlwaysTrue n gate
   pub no : b ≡ false → (w : List Bool) × (length w ≡ n.vars) × (truth n gate w ≡ false)
 
--- each truth says it about the gate at its place
+-- each truth says whether the gate at its place is true at each valuation
 pub record AreDecided (n : Gates) (gates : List ℕ) (truths : List Bool) : Type 0 where
   pub each : (k : ℕ) → k < length truths → IsDecided n (get_or gates k 0) (get_or truths k false)
 
@@ -35,6 +35,6 @@ abbrev pub IsGateDecision : Gates → List ℕ → Option Counterexample → Typ
 IsGateDecision n gates None = (k : ℕ) → k < length gates → IsAlwaysTrue n (get_or gates k 0)
 IsGateDecision n gates (Some counter) = IsFirstFalseGate n gates counter.place counter.valuation.bits
 
--- each is a gate of the net
+-- each number is that of a gate of the net
 abbrev pub AreGatesOfNet : Gates → List ℕ → Type 0
 AreGatesOfNet n gates = (k : ℕ) → k < length gates → get_or gates k 0 < length n.gates

@@ -42,7 +42,7 @@ pub record IsPartialEncoding (rows : List Row) (terms : List Term) (places : Lis
   pub shows : (w : List Bool) (α : Assignment) (field : ℕ → ℕ) (cv : ℕ → Leaf) → AtomsAre listed first w α → Spells places w field → AreControls rows terms field α cv →
       (n : ℕ) (e : Entry) → slice_get es n ≡ Some e → EntryEncodes (at net w) α e (cv n)
 
--- And every row has a gate or picks.
+-- A partial encoding in which every row has a gate or picks.
 pub record IsEncoding (rows : List Row) (terms : List Term) (places : List Place) (listed : List Atom) (first : ℕ) (net : Gates) (es : List Entry) : Type 0 where
   pub filling : IsPartialEncoding rows terms places listed first net es
   pub filled : (n : ℕ) → n < length rows → IsTrue (is_filled (slice_get es n))

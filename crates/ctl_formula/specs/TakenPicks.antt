@@ -13,7 +13,7 @@ abbrev pub leaf_taken : (ℕ → Bool) → List Pick → Leaf → Bool
 leaf_taken tr [] x = false
 leaf_taken tr (q ∷ qs) x = (leaf_eq q.leaf x && tr q.gate) || leaf_taken tr qs x
 
--- x alone is taken
+-- the leaf x alone is taken
 pub record IsOnlyTaken (tr : ℕ → Bool) (ps : List Pick) (x : Leaf) : Type 0 where
   pub only : (y : Leaf) → leaf_taken tr ps y ≡ leaf_eq x y
 

@@ -21,8 +21,8 @@ pub trait RowGates {
     /// The condition itself.
     ghost asks: { Self → ℕ → Row → List Bool → Assignment → (ℕ → Leaf) → Bool };
 
-    /// The fields that it reads are among the net's variables, the number of which is given, and its signals have
-    /// control values.
+    /// In a net with this number of variables, the fields that it reads are among them, and its signals have control
+    /// values.
     ghost knows: { Self → ℕ → List Entry → Type 0 };
 
     /// A gate of the condition.

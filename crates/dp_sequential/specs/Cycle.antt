@@ -24,7 +24,7 @@ worked_by r m n f =
     else (if n == r.val_m then data_read m.mem (f r.mem_addr) (set (f r.mem_read))
     else bit (data_error m.mem (f r.mem_addr) (set (f r.mem_read)) (set (f r.mem_write)))))))
 
--- the same, with the fetched fields and words before those
+-- the value of a hardware row in a cycle on the machine m: the fetched fields and words, and the rows of worked_by
 unfoldable pub fetched_by : SignalRows → Machine → ℕ → (ℕ → ℕ) → ℕ
 fetched_by r m n f =
     if n == r.r_a then field_a m.mem m.pc (set (f r.need_regids))
@@ -33,7 +33,7 @@ fetched_by r m n f =
     else (if n == r.val_p then behind m.pc (set (f r.need_regids)) (set (f r.need_val_c))
     else worked_by r m n f)))
 
--- the same, with instruction memory at the PC before those
+-- the value of a hardware row in a cycle on the machine m: instruction memory at the PC, and the rows of fetched_by
 unfoldable pub block_by : SignalRows → Variant → Machine → ℕ → (ℕ → ℕ) → ℕ
 block_by r v m n f =
     if n == r.imem_icode then (reading v m.mem m.pc).icode

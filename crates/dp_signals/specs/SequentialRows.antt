@@ -42,6 +42,6 @@ rows_from pc hardware control =
       stat = control + 17;
     }
 
--- those of SEQ
+-- the rows of SEQ's signals
 abbrev pub seq : SignalRows
 seq = rows_from signal.pc signal.hardware signal.defined

@@ -8,8 +8,8 @@ use hcl_types::{Class, Row, Table};
 use std::alloc::Global;
 use y86_base::{Items, Memory};
 
-/// The table's lines for what hardware computes. The fields that are read after an instruction's first byte also depend
-/// on the rows in brackets.
+/// The lines for what hardware computes, in a table with the rows `$rows`. The fields that are read after an
+/// instruction's first byte also depend on the rows in brackets.
 #[macro_export]
 macro_rules! hardware_lines {
     ($rows:expr, [$($pc:expr),*]) => {

@@ -14,7 +14,7 @@ pub record AreImplied (n : Gates) (gates : List ℕ) (count : ℕ) (marked : Lis
   pub size : length marked ≡ length n.gates
   pub each : (k : ℕ) → k < count → (u : List Bool) → truth n (get_or gates k 0) u ≡ false → AreMarkedTrue n marked u
 
--- a mark is in both lists
+-- each marked gate is marked in both lists
 pub record AreCommon (left right marked : List Bool) : Type 0 where
   pub size : length marked ≡ length left
   pub in_left : (i : ℕ) → get_or marked i false ≡ true → get_or left i false ≡ true

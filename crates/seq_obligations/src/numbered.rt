@@ -32,7 +32,7 @@ pub trait RuleFamily {
     /// The demand of the rule with this number.
     ghost asks: { Self → ℕ → List Bool → Assignment → (ℕ → Leaf) → Bool };
 
-    /// The fields are among the net's variables, the number of which is given, and the signals have control values.
+    /// In a net with this number of variables, the fields are among them, and the signals have control values.
     ghost knows: { Self → ℕ → List Entry → Type 0 };
 
     /// The table of signals, the places of the signals that are fields, and the number of bits of all fields together.
@@ -81,7 +81,8 @@ pub trait RuleFamily {
     ghost spelt: { (w : List Bool) → Spells places w (field w) };
 }
 
-/// The gate of the rule with this number: it is true at any valuation to which the rules don't apply.
+/// The gate of the rule with this number: true if its demand is met, and at any valuation to which the rules don't
+/// apply.
 fn rule_told<N: RuleFamily>(
     b: &mut NetBuilder,
     ctl: &Controls,

@@ -10,7 +10,7 @@ use Rattle.seq_plus.specs.PlusEquations.{at_pc}
 use Rattle.seq_plus.specs.PlusNames as name
 use Rattle.seq_plus.specs.declared.state.PlusState.{PlusState}
 
--- the PC after the instruction of the cycle
+-- the next PC of the cycle's instruction
 abbrev pub pc_behind : Variant → (ℕ → ℕ) → ℕ
 pc_behind v f = next_address (row v (f name.imem_icode)).next (f name.pc) (f name.valP) (f name.valC) (f name.valM) (set (f name.Cnd))
 

@@ -24,8 +24,8 @@ pub record AcceptsPlus (v : Variant) (terms : List Term) : Type 0 where
   pub are : AreAtoms plus_rows terms atoms
   pub holds : AcceptedPlus v terms
 
--- the same is true of its definitions and atoms, but an obligation is false at some valuation; rule is the first such
--- obligation, and w the least valuation at which it is false
+-- no definition of the design mixes codes with words and it has at most 64 atoms, but an obligation is false at some
+-- valuation: rule is the first such obligation, and w the least valuation at which it is false
 pub record RejectsPlus (v : Variant) (terms : List Term) (rule : ℕ) (w : List Bool) : Type 0 where
   pub atoms : List Atom
   pub are : AreAtoms plus_rows terms atoms

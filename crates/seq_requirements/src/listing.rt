@@ -122,7 +122,7 @@ fn put_shared(
     }
 }
 
-/// What obligation 16 of SEQ requires: the PC after the instruction, unless a fault stops it.
+/// What obligation 16 of SEQ requires: the next PC, unless a fault stops the instruction.
 fn put_seq_next(out: &mut Vec<Requirement>, r: &Row, l: &LineNow) -> Result<(), Memory>
     ensures { OnOk result (out.new.items ≡ out.old.items ++ spec.seq_next r.now (fields_in l.now)) }
 {
@@ -139,7 +139,7 @@ fn put_seq_next(out: &mut Vec<Requirement>, r: &Row, l: &LineNow) -> Result<(), 
     put_some(out, seq_row::NEW_PC, leaf)
 }
 
-/// What obligation 16 of SEQ+ requires: the PC after the previous instruction.
+/// What obligation 16 of SEQ+ requires: the next PC of the previous instruction.
 fn put_plus_next(out: &mut Vec<Requirement>, v: Variant, icode: u64, cnd: u64) -> Result<(), Memory>
     ensures { OnOk result (out.new.items ≡ out.old.items ++ spec.plus_next v icode cnd) }
 {

@@ -59,7 +59,8 @@ Observes {S} Shows stat window first (suc k) s text =
     (u : S) × (before : List ℕ) × (lines : List ℕ) × Observes Shows stat window first k u before × (is_aok (stat u) ≡ true) × Shows u lines s
     × (text ≡ before ++ shown window (suc k) lines)
 
--- the same at the machine's end, or at the limit of cycles if it hasn't ended before
+-- s is the state k cycles after first, at the machine's end or at the limit of cycles, and text is the output of the
+-- cycles
 pub record ObservesTo {S : Type 0} (Shows : S → List ℕ → S → Type 0) (stat : S → Stat) (window : CycleRange) (first : S) (limit k : ℕ) (s : S) (text : List ℕ) : Type 0 where
   pub within : k ≤ limit
   pub watches : Observes Shows stat window first k s text
