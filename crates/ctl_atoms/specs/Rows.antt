@@ -34,7 +34,7 @@ defined_leaves class.Code xs = xs
 defined_leaves class.Value xs = xs
 defined_leaves class.Truth xs = []
 
--- the leaves of row n, if its term, where it has one, can pick xs
+-- the leaves of row n; xs are those that its term can pick, if it has a term
 abbrev pub leaves_by_role : Class → ℕ → Role → List Leaf → List Leaf
 leaves_by_role class n (role.Constant c) xs = Number c ∷ []
 leaves_by_role class n role.State xs = field_leaves class n

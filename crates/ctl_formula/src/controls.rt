@@ -7,7 +7,7 @@ use hcl_types::NameId;
 use std::marker::Model;
 use y86_base::Items;
 
-/// A leaf or a number, with the gate that is true exactly where it is picked.
+/// A leaf or a number, with the gate that is true exactly if it is picked.
 #[derive(Clone, Copy, Debug, PartialEq, Eq)]
 pub struct Pick {
     pub leaf: Leaf,
@@ -54,7 +54,7 @@ impl Controls {
         Controls { entries }
     }
 
-    /// The gate of a Truth name: it is true exactly where the signal is.
+    /// The gate of a Truth name: it is true exactly if the signal is.
     pub fn truth(&self, n: NameId) -> u64
         requires { IsTrue (has_gate self.now n) }
         ensures { result ≡ gate_of self.now n }

@@ -75,7 +75,7 @@ fn bit_gate(b: &mut NetBuilder, place: Place) -> Result<u64, Memory>
     b.not(zero)
 }
 
-/// The picks of a code: each number of 4 bits, where the bits of its place spell it.
+/// The picks of a code: each number of 4 bits, with a gate that is true if the bits of its place spell it.
 fn code_picks(alloc: Global, b: &mut NetBuilder, place: Place) -> Result<Vec<Pick>, Memory>
     requires few { place.bits ≤ 4 }
     requires inside { place.first + place.bits ≤ b.old.vars }

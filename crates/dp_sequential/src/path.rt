@@ -14,7 +14,7 @@ use y86_base::Image;
 use yis_run::End;
 
 /// A sequential datapath, by the type of its state as a cycle begins. Datapaths differ only in what this state holds of
-/// the instruction before.
+/// the previous instruction.
 pub trait Sequential: Drop {
     /// The rows of its signals.
     const ROWS: SignalRows;

@@ -6,8 +6,8 @@ use Rattle.hcl_types.specs.declared.table.Row.{Row}
 use Rattle.dp_signals.specs.Tables.{constant_rows, signal, signals}
 use Rattle.dp_signals.specs.declared.sequential_rows.SignalRows.{SignalRows}
 
--- what hardware computes, with the rows that it depends on: what is read after the first byte also depends on the rows
--- in pc
+-- the signals that hardware computes, with the rows on which they depend: everything that is read after the first byte
+-- also depends on the rows in pc
 abbrev pub hardware_rows : SignalRows → List ℕ → List Row
 hardware_rows r pc =
     signal Code (Hardware (r.pc ∷ [])) (codes "imem_icode") ∷
