@@ -10,7 +10,7 @@ use Rattle.bdd_core.specs.declared.nodes.ChoiceNode.{ChoiceNode}
 
 module _ {vars n : ℕ} {node other : ℕ → ChoiceNode} (o : IsOrdered vars n node) (c : ChoiceNode)
     (same : (d : ℕ) → d < n → other d ≡ node d) (last : other n ≡ c) where
-  -- what holds of the earlier nodes and of the new one holds of all
+  -- a property of the earlier nodes and of the new one is one of all
   each : (P : ℕ → ChoiceNode → Type 0) → ((d : ℕ) → 2 ≤ d → d < n → P d (node d)) → P n c → (d : ℕ) → 2 ≤ d → d < n + 1 → P d (other d)
   each P old new d h i =
       elim (cases_lt d n) [

@@ -1,4 +1,4 @@
--- Operations on diagrams: what is settled at once, how an operation splits, and how its two answers join.
+-- Operations on diagrams: which have a result at once, how an operation splits, and how its two results join.
 use Rattle.std.proofs.Common.{◌≡◌, ◌⊎◌, inl, inr, ℕ, ◌<◌, ◌≤◌, min, Bool, true, false, not, ◌&&◌, cond, List, get_or, slice_get, Option, Some, None, refl, sym, ap, ◌∙◌, subst, arith}
 use Rattle.std.specs.Prelude.{nat_eq, IfSome}
 use Rattle.std.proofs.lemmas.Bool.{cases_Bool}
@@ -28,7 +28,7 @@ and_same : (x : Bool) → x && x ≡ x
 and_same true = refl
 and_same false = refl
 
--- no variable stands behind the ends
+-- no variable comes after the ends
 top_first : (s : Diagrams) → IsReduced s → (d e : ℕ) → d < count s → min (at s d).var (at s e).var ≤ (at s 0).var
 top_first s well d e h = let m = var_most well d h in let f = ap (λ (c : ChoiceNode). c.var) well.first in omega (arith, m, f)
 
@@ -112,7 +112,7 @@ splits s k p well key h is ll lr hl hr =
       high_falls = let f = parts_fall well p.var true k.left k.right key.left key.right under is in omega (arith, f, hl, hr);
     }
 
--- what holds of the diagrams holds as they grow
+-- properties of the diagrams are kept as they grow
 pub key_kept : {a b : Diagrams} {k : OpKey} → Keeps a b → IsKey a k → IsKey b k
 key_kept {a} {b} {k} keeps key = record {
   left = let m = keeps.more in let l = key.left in omega arith;
@@ -212,13 +212,13 @@ module _ {s : Diagrams} {k : OpKey} {p : OperandSplit} (well : IsReduced s) (key
     ];
   }
 
--- the same as the diagrams grow by the node that joins
+-- and also if the diagrams grow by the node that joins
 pub finished : {a b : Diagrams} {k : OpKey} {p : OperandSplit} {low high d : ℕ} → IsReduced a → IsReduced b → Keeps a b → IsKey a k → IsSplit a k p
     → IsAnswer a (low_key k p) low → IsAnswer a (high_key k p) high → IsMade b p.var low high d → IsAnswer b k d
 finished wa wb keeps key split low high made =
     joined_answer wb (key_kept keeps key) (split_kept keeps key split) (answer_kept wa keeps low) (answer_kept wa keeps high) made
 
--- a remembered result is right
+-- a cached result is right
 pub recalled : (s : Diagrams) (entries : List CachedResult) (k : OpKey) (o : Option ℕ) → AreAnswers s entries → IfSome o (IsCached entries k) → IfSome o (IsAnswer s k)
 recalled s entries k None all h = tt
 recalled s entries k (Some r) all h = all.each h.0 (record { key = k; answer = r }) h.1

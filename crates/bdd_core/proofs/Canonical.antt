@@ -80,7 +80,7 @@ module _ {vars n : ℕ} {node : ℕ → ChoiceNode} (o : IsOrdered vars n node) 
   part_less : (x : ℕ) (b : Bool) (d : ℕ) → d < n → x < vars → (node d).var ≡ x → cofactor_of node x b d < d
   part_less x b d h under e = let p = part_here node x b d e in let c = child_below o d b (branches d h (omega arith)) h in omega (arith, p, c)
 
-  -- the parts of two diagrams under the first variable of either are fewer
+  -- the parts of two diagrams under the first variable of either have a smaller sum of numbers
   pub parts_fall : (x : ℕ) (b : Bool) (d e : ℕ) → d < n → e < n → x < vars → x ≡ min (node d).var (node e).var → cofactor_of node x b d + cofactor_of node x b e < d + e
   parts_fall x b d e h i under is = by (cases_eq (node d).var x)
     where
@@ -96,7 +96,7 @@ module _ {vars n : ℕ} {node : ℕ → ChoiceNode} (o : IsOrdered vars n node) 
           let here : (node e).var ≡ x = elim (cases_eq (node e).var x) [ inl r ↦ r | inr r ↦ absurd (omega (arith, is, q, r)) ] in
           let less = part_less x b e i under here in omega (arith, less, ld)
 
-  -- a difference of the parts is one of the whole
+  -- a difference of the parts is one of the wholes
   whole_differs : (x : ℕ) (b : Bool) (d e : ℕ) → d < n → e < n → x < vars → x ≤ (node d).var → x ≤ (node e).var → Differ vars node (cofactor_of node x b d) (cofactor_of node x b e) → Differ vars node d e
   whole_differs x b d e h i under p q f = record {
     at = set f.at x b;
@@ -167,6 +167,6 @@ module _ {vars n : ℕ} {node : ℕ → ChoiceNode} (o : IsOrdered vars n node) 
   differ zero a b h i j = ends_differ a b (omega arith) (omega arith)
   differ (suc m) a b h i j = step m a b (min (node a).var (node b).var) (differ m) h i j refl (cases_lt (min (node a).var (node b).var) vars)
 
-  -- where the truths are the same everywhere, so are the diagrams
+  -- if the truths are the same everywhere, so are the diagrams
   pub canonical : (a b : ℕ) → a < n → b < n → ((v : List Bool) → length v ≡ vars → walk node a v ≡ walk node b v) → a ≡ b
   canonical a b i j same = elim (differ (a + b) a b (omega arith) i j) [ inl e ↦ e | inr f ↦ absurd (f.differ (same f.at f.size)) ]

@@ -1,4 +1,4 @@
--- What the diagrams say of their truths.
+-- What the diagrams say about their truths.
 use Rattle.std.proofs.Common.{◌≡◌, ◌≢◌, ◌↔◌, inl, inr, ℕ, ◌+◌, ◌<◌, ◌≤◌, Bool, true, false, List, length, set, refl, sym, ap, ◌∙◌, arith}
 use Rattle.bdd_core.specs.Diagrams.{Diagrams, at, count, reach, dia_truth, child, IsReduced}
 use Rattle.bdd_core.specs.Meaning.{IsDia, truth_of, Always, IsChoice}
@@ -13,7 +13,7 @@ node_false s d well e v h = ap (λ (k : ℕ). dia_truth s k v) e ∙ first_truth
 pub node_true : (s : Diagrams) (d : Dia) → IsReduced s → d.id ≡ 1 → Always s d true
 node_true s d well e v h = ap (λ (k : ℕ). dia_truth s k v) e ∙ second_truth s v well
 
--- diagrams with the same truth everywhere have one number
+-- diagrams with the same truth everywhere have the same number
 pub same_number : (s : Diagrams) (a b : ℕ) → IsReduced s → a < count s → b < count s → ((v : List Bool) → length v ≡ s.vars → dia_truth s a v ≡ dia_truth s b v) → a ≡ b
 unfolding dia_truth
 same_number s a b well h i same = canonical well a b h i same

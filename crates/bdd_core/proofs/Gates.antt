@@ -25,14 +25,14 @@ variable_truth s x d v well made = by (cases_Bool (get_or v x false))
     by (inl b) = sym (part_truth well x true d v made.within b) ∙ (ap (λ (k : ℕ). reach (at s) k k v) made.is_high ∙ (second_truth s v well ∙ sym b))
     by (inr b) = sym (part_truth well x false d v made.within b) ∙ (ap (λ (k : ℕ). reach (at s) k k v) made.is_low ∙ (first_truth s v well ∙ sym b))
 
--- what has the truth of a gate keeps it
+-- a diagram that has the truth of a gate keeps it
 pub truth_stays : {a b : Diagrams} {n : Gates} {j d : ℕ} → IsReduced a → Keeps a b → HasTruth a n j d → HasTruth b n j d
 truth_stays {a} {b} {n} {j} {d} well keeps has = record {
   within = let m = keeps.more in let w = has.within in omega (arith, m, w);
   is = λ v h. truth_kept well keeps d v has.within ∙ has.is v (h ∙ keeps.vars);
 }
 
--- the truth of a gate from the diagrams that it reads, where these have the truths of their gates
+-- the truth of a gate from the diagrams that it reads, if these have the truths of their gates
 pub value_is : (a : Diagrams) (n : Gates) (made : List ℕ) (v : List Bool) (g : Gate) → ((j : ℕ) → g ≡ Not j → dia_truth a (get_or made j 0) v ≡ gate_truth n j v)
     → ((j k : ℕ) → g ≡ And j k → (dia_truth a (get_or made j 0) v ≡ gate_truth n j v) × (dia_truth a (get_or made k 0) v ≡ gate_truth n k v))
     → made_value a made v g ≡ gate_value v (truths n v) g

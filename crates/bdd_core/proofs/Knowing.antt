@@ -18,7 +18,7 @@ none_known n b k e known made s = record { size = ap length known ∙ (length-re
 pub known_stays : {a b : Diagrams} {n : Gates} {k : KnownGates} → IsReduced a → Keeps a b → AreKnown a n k → AreKnown b n k
 known_stays well keeps known = record { size = known.size; room = known.room; each = λ j h. truth_stays well keeps (known.each j h) }
 
--- the diagrams that a gate reads are there
+-- the gates that a gate reads have diagrams
 pub are_made : {s : Diagrams} {n : Gates} {k : KnownGates} {g : Gate} → AreKnown s n k → ReadsMarked k.known g → AreMade s k.made g
 are_made known reads = record {
   inverted = λ a e. (known.each a (reads.inverted a e)).within;
@@ -26,7 +26,7 @@ are_made known reads = record {
   right = λ a b e. (known.each b (reads.right a b e)).within;
 }
 
--- and what is made of them has the truth of the gate
+-- and the diagram made of them has the truth of the gate
 gate_is : {a b : Diagrams} {n : Gates} {k : KnownGates} {i d : ℕ} {g : Gate} → Keeps a b → AreKnown a n k → ReadsMarked k.known g
     → ((w : List Bool) → gate_truth n i w ≡ gate_value w (truths n w) g) → IsMadeOf a b k.made g d → HasTruth b n i d
 gate_is {a} {b} {n} {k} {i} {d} {g} keeps known reads meaning made_of = record {

@@ -9,7 +9,7 @@ use Rattle.bdd_core.proofs.Reaching.{reach_step}
 use Rattle.bdd_core.specs.declared.nodes.ChoiceNode.{ChoiceNode}
 use Rattle.bdd_core.specs.declared.store.Dia.{Dia}
 
--- the walk has come to diagram e, and its bits before the variable of e are chosen
+-- the walk has reached diagram e, and its bits before the variable of e are chosen
 pub record IsDown (s : Diagrams) (d : Dia) (e : ℕ) (bits : List Bool) : Type 0 where
   pub size : length bits ≡ s.vars
   pub within : e < count s

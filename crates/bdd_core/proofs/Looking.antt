@@ -1,4 +1,4 @@
--- Looks through places.
+-- Searches through places.
 use Rattle.std.proofs.Common.{◌≡◌, ◌⊎◌, inl, inr, ℕ, suc, ◌+◌, ◌-◌, ◌<◌, ◌≤◌, true, false, cond, ◌&&◌, List, [], ◌∷◌, ◌++◌, length, get_or, set, drop, slice_get, Option, Some, None, refl, sym, ap, ◌∙◌, subst, arith}
 use Rattle.std.specs.Prelude.{nat_eq}
 use Rattle.std.specs.List.{count_by}
@@ -113,7 +113,7 @@ named None c e = absurd cc
 named (Some b) c e = ap Some (same_is b c e)
 
 module _ (list : List ChoiceNode) (c : ChoiceNode) where
-  -- what is found is the node
+  -- a search that finds a number has found the node
   pub look_sound : (ps : List ℕ) (d : ℕ) → look_through list c ps ≡ Present d → (2 ≤ d) × (slice_get list (d - 2) ≡ Some c)
   look_sound [] d e = absurd (let f = none_full list c in cc)
   look_sound (p ∷ ps) d e = by (cases_lt p 2) (cases_Bool (names list p c)) (look_sound ps d)
@@ -127,7 +127,7 @@ module _ (list : List ChoiceNode) (c : ChoiceNode) where
           subst (λ (k : ℕ). (2 ≤ k) × (slice_get list (k - 2) ≡ Some c)) q (h, named (slice_get list (p - 2)) c t)
       by (inr h) (inr t) rest = rest (further_found (look_through list c ps) d (sym (head_more list c p ps h t) ∙ e))
 
-  -- the free place that a look ends at
+  -- the free place at which a search ends
   pub look_place : (ps : List ℕ) (k : ℕ) → look_through list c ps ≡ Vacant k → (k < length ps) × (get_or ps k 0 < 2)
   look_place [] k e = absurd (let f = none_full list c in cc)
   look_place (p ∷ ps) k e = by (cases_lt p 2) (cases_Bool (names list p c)) (look_place ps)
@@ -144,7 +144,7 @@ module _ (list : List ChoiceNode) (c : ChoiceNode) where
           let r = rest f.0 f.1 in
           subst (λ (j : ℕ). (j < length (p ∷ ps)) × (get_or (p ∷ ps) j 0 < 2)) (sym f.2) ((let z = r.0 in omega (arith, z)), r.1)
 
-  -- a look that meets no free place has met used ones alone
+  -- a search that meets no free place has met only used ones
   pub look_all : (ps : List ℕ) → look_through list c ps ≡ Full → count_by is_used ps ≡ length ps
   look_all [] e = refl
   look_all (p ∷ ps) e = by (cases_lt p 2) (cases_Bool (names list p c)) (look_all ps)
@@ -172,7 +172,7 @@ abbrev pub AreIn : List ChoiceNode → List ℕ → Type 0
 AreIn list ps = (i : ℕ) → get_or ps i 0 < length list + 2
 
 module _ (list : List ChoiceNode) (more c : ChoiceNode) where
-  -- in a longer list and with further places used, a look finds what it found
+  -- in a longer list and with further places used, a search finds what it found before
   pub found_kept : (ps qs : List ℕ) (d : ℕ) → Grows ps qs → AreIn list ps → look_through list c ps ≡ Present d → look_through (list ++ more ∷ []) c qs ≡ Present d
   found_kept [] qs d g below e = absurd (let f = none_full list c in cc)
   found_kept (p ∷ ps) [] d g below e = absurd (let s = g.size in omega (arith, s))
@@ -208,7 +208,7 @@ module _ (list : List ChoiceNode) (more c : ChoiceNode) where
           ap (λ (x : ℕ). look_through (list ++ more ∷ []) c (x ∷ qs)) same ∙ (head_more (list ++ more ∷ []) c p qs h kept ∙ ap (further 1) r)
 
 module _ (list : List ChoiceNode) (c : ChoiceNode) where
-  -- the number of a node that is written where the look for it ended is found there
+  -- if the number of a node is written where the search for it ended, a search finds it there
   pub look_written : (ps : List ℕ) (k : ℕ) → AreIn list ps → look_through list c ps ≡ Vacant k
       → look_through (list ++ c ∷ []) c (set ps k (length list + 2)) ≡ Present (length list + 2)
   look_written [] k below e = absurd (let f = none_full list c in cc)

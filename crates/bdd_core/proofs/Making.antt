@@ -12,7 +12,7 @@ use Rattle.bdd_core.proofs.Adding.{pushed_well, pushed_keeps}
 use Rattle.bdd_core.proofs.Tables.{table_unique}
 use Rattle.bdd_core.specs.declared.nodes.ChoiceNode.{ChoiceNode}
 
--- two equal parts are the diagram
+-- two equal parts are the diagram itself
 pub made_same : (s : Diagrams) (x d e : ℕ) → d < count s → x < (at s d).var → d ≡ e → IsMade s x d e d
 made_same s x d e h first same =
     let other : (at s d).var ≡ x → ⊥ = λ q. absurd (omega (arith, q)) in
@@ -40,11 +40,11 @@ made_found s x low high d h is =
     let inside : d - 2 < length s.nodes = slice_get_within s.nodes (d - 2) c is in
     made_node s c d (omega arith) (sym (at_list s d c h (omega arith)) ∙ get_or_from_slice_get s.nodes (d - 2) c c is)
 
--- a node that was put behind the others
+-- a node that was added after the others
 pub made_added : (s : Diagrams) (c : ChoiceNode) → IsMade record { vars = s.vars; nodes = s.nodes ++ c ∷ [] } c.var c.low c.high (count s)
 made_added s c = made_node record { vars = s.vars; nodes = s.nodes ++ c ∷ [] } c (count s) (omega (arith, length_push s.nodes c)) (at_last s c)
 
--- a new node stands in a longer list once
+-- a longer list has a new node only once
 pub unique_pushed : (list : List ChoiceNode) (c : ChoiceNode) (places : List ℕ) → IsTable list places → IsNewIn list c → IsUnique (list ++ c ∷ [])
 unique_pushed list c places t new i j d p q = by (cases_lt i (length list)) (cases_lt j (length list))
   where
@@ -73,7 +73,7 @@ front list c n e = ap (λ (k : ℕ). take k (list ++ c ∷ [])) e ∙ (take-appe
 pub whole : (list : List ChoiceNode) (c : ChoiceNode) (n : ℕ) → n ≡ length list → take (n + 1) (list ++ c ∷ []) ≡ list ++ c ∷ []
 whole list c n e = take_all (n + 1) (list ++ c ∷ []) (omega (arith, length_push list c))
 
--- the diagrams with one node more
+-- the diagrams with another node
 pub made_pushed : (old new : Diagrams) (x low high d : ℕ) → new.vars ≡ old.vars → new.nodes ≡ old.nodes ++ record { var = x; low = low; high = high } ∷ [] → d ≡ count old → IsMade new x low high d
 made_pushed old new x low high d v n e =
     let c : ChoiceNode = record { var = x; low = low; high = high } in
@@ -85,7 +85,7 @@ keeps_pushed old new c v n =
     let same : record { vars = old.vars; nodes = old.nodes ++ c ∷ [] } ≡ new = λ i. record { vars = sym v i; nodes = sym n i } in
     subst (Keeps old) same (pushed_keeps old c)
 
--- a node that may be put behind the others
+-- a node that may be added after the others
 pub keeps_added : (old new : Diagrams) (c : ChoiceNode) {E : Type 0} (r : Result ℕ E) → new.vars ≡ old.vars → IfOk r (λ d. (d ≡ count old) × (new.nodes ≡ old.nodes ++ c ∷ [])) → OnErr r (new ≡ old) → Keeps old new
 keeps_added old new c (Ok d) v added same = keeps_pushed old new c v added.1
 keeps_added old new c (Err e) v added same = subst (Keeps old) (sym same) (keeps_self old)

@@ -13,7 +13,7 @@ module _ (list : List ChoiceNode) (n : ℕ) (c : ChoiceNode) (places : List ℕ)
   size : length (take n list) ≡ n
   size = omega (arith, length-take {A = ChoiceNode})
 
-  -- a look for a node that isn't there ends at a free place, if there is one
+  -- a search for a node that isn't in the table ends at a free place, if there is one
   pub put_free : (r : Lookup) → IsUnique list → n < length places → IsTable (take n list) places → r ≡ searched (take n list) (get_or list n c) places
       → ((i : ℕ) → r ≡ Vacant i → ⊥) → ⊥
   put_free (Vacant i) unique room t e other = other i refl

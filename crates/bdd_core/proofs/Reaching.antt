@@ -1,4 +1,4 @@
--- Walks down a diagram: how many steps they want, and what they read.
+-- Walks down a diagram: how many steps they need, and which bits they read.
 use Rattle.std.proofs.Common.{◌≡◌, ℕ, zero, suc, ◌<◌, ◌≤◌, Bool, true, false, List, set, get_or, refl, sym, ap, ◌∙◌, arith}
 use Rattle.std.proofs.lemmas.List.{get_or-set_other}
 use Rattle.bdd_core.specs.Diagrams.{end, child, reach, IsOrdered}

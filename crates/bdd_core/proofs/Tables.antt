@@ -1,4 +1,4 @@
--- The table of nodes: a search tells the node, and stays right with one more.
+-- The table of nodes: a search returns the node, and stays right with another node.
 use Rattle.std.proofs.Common.{◌≡◌, ◌⊎◌, inl, inr, ℕ, ◌+◌, ◌-◌, ◌<◌, ◌≤◌, cond, List, [], ◌∷◌, ◌++◌, length, get_or, set, drop, take, replicate, slice_get, Some, refl, sym, ap, ◌∙◌, subst, arith}
 use Rattle.std.specs.List.{count_by}
 use Rattle.std.proofs.lemmas.Bool.{cases_lt, cases_eq, lt-ltb, le-ltb}
@@ -147,7 +147,7 @@ module _ (list : List ChoiceNode) (c : ChoiceNode) (ps : List ℕ) where
             ap (λ (a : Lookup). joined h a (look_through longer c (take h qs))) (full_kept list more c (drop h ps) (drop h qs) (grows_drop h g) (in_drop list h ps below) f.0)
             ∙ found_kept list more c (take h ps) (take h qs) d (grows_take h near g) (in_take list h ps near below) f.1
 
--- a search in no places
+-- a search through no places
 pub search_none : (list : List ChoiceNode) (c : ChoiceNode) (ps : List ℕ) → length ps ≡ 0 → Full ≡ searched list c ps
 unfolding searched look_through
 search_none list c [] e =
@@ -156,19 +156,19 @@ search_none list c [] e =
     ∙ ap (λ (xs : List ℕ). look_through list c xs) (take-nil h))
 search_none list c (p ∷ ps) e = absurd (omega arith)
 
--- a look begins inside
+-- a search begins inside the table
 home_near : (c : ChoiceNode) (n : ℕ) → 0 < n → home_of c n ≤ n
 unfolding home_of
 home_near c n h = (let b = and_le_r (hash_of c) (n - 1) in omega (arith, b, h))
 
--- no node stands twice in a list that the table finds
+-- a list that the table finds has no node twice
 pub table_unique : {list : List ChoiceNode} {places : List ℕ} → IsTable list places → IsUnique list
 table_unique {list} {places} t i j c p q =
     let e : Present (i + 2) ≡ Present (j + 2) = sym (t.complete i c p) ∙ t.complete j c q in
     let f : i + 2 ≡ j + 2 = cc in
     omega (arith, f)
 
--- one more node
+-- another node
 pub table_put : (list : List ChoiceNode) (c : ChoiceNode) (places : List ℕ) (m : ℕ) → 0 < length places → IsTable list places → searched list c places ≡ Vacant m
     → IsTable (list ++ c ∷ []) (set places m (length list + 2))
 table_put list c places m some t e = record {

@@ -25,7 +25,7 @@ at_list s (suc (suc d)) x h i =
     let e : suc (suc d) - 2 ≡ d = omega arith in
     ap (λ (k : ℕ). get_or s.nodes k x) e ∙ get_or_any s.nodes d x (end s.vars 0) (omega arith)
 
--- a node behind the others: the earlier ones stay, and it is the last
+-- a node added after the others: the earlier ones stay, and it is the last
 pub at_pushed : (s : Diagrams) (c : ChoiceNode) (d : ℕ) → d < count s → at record { vars = s.vars; nodes = s.nodes ++ c ∷ [] } d ≡ at s d
 unfolding at
 at_pushed s c zero h = refl

@@ -1,4 +1,4 @@
--- What an operation on diagrams answers.
+-- The results of operations on diagrams.
 use Rattle.std.specs.Prelude.{ℕ, ◌+◌, ◌<◌, ◌≤◌, min, Bool, true, false, not, ◌&&◌, List, ◌≡◌, length, slice_get, Some}
 use Rattle.bdd_core.specs.Diagrams.{Diagrams, IsReduced, at, count, dia_truth, cofactor_of}
 use Rattle.bdd_core.specs.declared.results.Op.{Op}
@@ -17,7 +17,7 @@ pub record IsKey (s : Diagrams) (k : OpKey) : Type 0 where
   pub left : k.left < count s
   pub right : k.right < count s
 
--- the diagram r is what the operation answers, and no variable before those of its arguments decides it
+-- the diagram r is the result of the operation, and no variable before those of its arguments decides it
 pub record IsAnswer (s : Diagrams) (k : OpKey) (r : ℕ) : Type 0 where
   pub left : k.left < count s
   pub right : k.right < count s
@@ -25,11 +25,11 @@ pub record IsAnswer (s : Diagrams) (k : OpKey) (r : ℕ) : Type 0 where
   pub top : min (at s k.left).var (at s k.right).var ≤ (at s r).var
   pub truth_is : (v : List Bool) → length v ≡ s.vars → dia_truth s r v ≡ op_truth k.op (dia_truth s k.left v) (dia_truth s k.right v)
 
--- each result that is remembered is right
+-- each cached result is right
 pub record AreAnswers (s : Diagrams) (entries : List CachedResult) : Type 0 where
   pub each : (i : ℕ) (e : CachedResult) → slice_get entries i ≡ Some e → IsAnswer s e.key e.answer
 
--- an operation falls into two, on the parts of its arguments under the first variable that decides one of them
+-- an operation splits in two: on the parts of its arguments under the first variable that decides either of them
 pub record IsSplit (s : Diagrams) (k : OpKey) (p : OperandSplit) : Type 0 where
   pub var : p.var ≡ min (at s k.left).var (at s k.right).var
   pub under : p.var < s.vars
@@ -44,13 +44,13 @@ pub record IsSplit (s : Diagrams) (k : OpKey) (p : OperandSplit) : Type 0 where
   pub low_falls : p.low_left + p.low_right < k.left + k.right
   pub high_falls : p.high_left + p.high_right < k.left + k.right
 
--- diagram d decides variable x between two others, or is both
+-- diagram d decides variable x between two others, or equals both
 pub record IsMade (s : Diagrams) (x low high d : ℕ) : Type 0 where
   pub within : d < count s
   pub top : x ≤ (at s d).var
   pub is_low : cofactor_of (at s) x false d ≡ low
   pub is_high : cofactor_of (at s) x true d ≡ high
 
--- what an operation answers at every diagrams in which its arguments are
+-- r is the result of operation k in every store that has its arguments
 abbrev pub IsSettled : OpKey → ℕ → Type 0
 IsSettled k r = (s : Diagrams) → IsReduced s → IsKey s k → IsAnswer s k r

@@ -12,7 +12,7 @@ pub record ReadsMarked (needed : List Bool) (gate : Gate) : Type 0 where
   pub left : (a b : ℕ) → gate ≡ And a b → get_or needed a false ≡ true
   pub right : (a b : ℕ) → gate ≡ And a b → get_or needed b false ≡ true
 
--- with a gate those that it reads are marked
+-- if a gate is marked, so are those that it reads
 pub record IsCone (n : Gates) (needed : List Bool) : Type 0 where
   pub size : length needed ≡ length n.gates
   pub closed : (i : ℕ) (g : Gate) → slice_get n.gates i ≡ Some g → get_or needed i false ≡ true → ReadsMarked needed g
@@ -33,7 +33,7 @@ pub record AreKnown (s : Diagrams) (n : Gates) (b : KnownGates) : Type 0 where
   pub room : length b.made ≡ length n.gates
   pub each : (j : ℕ) → get_or b.known j false ≡ true → HasTruth s n j (get_or b.made j 0)
 
--- the gates that had diagrams have some
+-- each gate that had a diagram still has one
 abbrev pub KnowsAll : KnownGates → KnownGates → Type 0
 KnowsAll old new = (j : ℕ) → get_or old.known j false ≡ true → get_or new.known j false ≡ true
 
@@ -41,7 +41,7 @@ KnowsAll old new = (j : ℕ) → get_or old.known j false ≡ true → get_or ne
 abbrev pub KnowsBefore : List Bool → KnownGates → ℕ → Type 0
 KnowsBefore needed b i = (j : ℕ) → j < i → get_or needed j false ≡ true → get_or b.known j false ≡ true
 
--- the diagrams of the gates that a gate reads are there
+-- the gates that a gate reads have diagrams
 pub record AreMade (s : Diagrams) (made : List ℕ) (gate : Gate) : Type 0 where
   pub inverted : (a : ℕ) → gate ≡ Not a → get_or made a 0 < count s
   pub left : (a b : ℕ) → gate ≡ And a b → get_or made a 0 < count s
@@ -54,7 +54,7 @@ made_value s made v (Var x) = get_or v x false
 made_value s made v (Not a) = not (dia_truth s (get_or made a 0) v)
 made_value s made v (And a b) = dia_truth s (get_or made a 0) v && dia_truth s (get_or made b 0) v
 
--- diagram d has this truth
+-- diagram d has the truth of the gate, from the diagrams of those that it reads
 pub record IsMadeOf (old new : Diagrams) (made : List ℕ) (gate : Gate) (d : ℕ) : Type 0 where
   pub within : d < count new
   pub is : (v : List Bool) → length v ≡ new.vars → dia_truth new d v ≡ made_value old made v gate

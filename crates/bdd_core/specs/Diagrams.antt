@@ -1,6 +1,6 @@
 -- Ordered decision diagrams over shared nodes, and their truth (Bryant, Graph-based algorithms for Boolean function
--- manipulation, 1986). Number 0 is the diagram of falsehood, number 1 that of truth; node k of the list has number
--- k + 2. Both ends stand behind all variables, and lead to themselves.
+-- manipulation, 1986). Number 0 is the diagram of falsehood, number 1 that of truth; node k of the list has the number
+-- k + 2. Both ends come after all variables, and lead to themselves.
 use Rattle.std.specs.Prelude.{ℕ, zero, suc, ◌+◌, ◌<◌, ◌≤◌, Bool, false, cond, List, ◌∷◌, ◌≡◌, length, get_or, nat_eq}
 use Rattle.bdd_core.specs.declared.nodes.ChoiceNode.{ChoiceNode}
 
@@ -15,7 +15,7 @@ end vars d = record { var = vars; low = d; high = d }
 unfoldable pub at : Diagrams → ℕ → ChoiceNode
 at s d = get_or (end s.vars 0 ∷ end s.vars 1 ∷ s.nodes) d (end s.vars 0)
 
--- how many diagrams there are: their numbers are those below
+-- the number of diagrams: each smaller number is a diagram's
 abbrev pub count : Diagrams → ℕ
 count s = length s.nodes + 2
 
@@ -23,7 +23,8 @@ count s = length s.nodes + 2
 abbrev pub child : ChoiceNode → Bool → ℕ
 child c b = cond b c.high c.low
 
--- some steps down from diagram d, each to the side that the valuation has; whether they end at the truth
+-- the truth of diagram d by walking the given number of steps down, each to the side that the valuation has: whether
+-- the walk ends at number 1
 unfoldable pub reach : (ℕ → ChoiceNode) → ℕ → ℕ → List Bool → Bool
 reach node zero d v = nat_eq d 1
 reach node (suc steps) d v = reach node steps (child (node d) (get_or v (node d).var false)) v
@@ -32,7 +33,7 @@ reach node (suc steps) d v = reach node steps (child (node d) (get_or v (node d)
 unfoldable pub dia_truth : Diagrams → ℕ → List Bool → Bool
 dia_truth s d v = reach (at s) d d v
 
--- the diagrams are ordered, reduced, and none stands twice
+-- the diagrams are ordered, reduced, and none occurs twice
 pub record IsOrdered (vars n : ℕ) (node : ℕ → ChoiceNode) : Type 0 where
   pub two : 2 ≤ n
   pub first : node 0 ≡ end vars 0

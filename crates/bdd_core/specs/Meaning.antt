@@ -1,4 +1,4 @@
--- What the public calls say of diagrams.
+-- What the public calls say about diagrams.
 use Rattle.std.specs.Prelude.{ℕ, ◌<◌, Bool, true, false, List, ◌≡◌, ◌≢◌, length, get_or, set}
 use Rattle.nets.specs.Nets.{Gates}
 use Rattle.nets.specs.Nets.{truth as gate_truth}
@@ -14,7 +14,7 @@ IsDia s d = d.id < count s
 abbrev pub truth_of : Diagrams → Dia → List Bool → Bool
 truth_of s d v = dia_truth s d.id v
 
--- a truth has one value at every valuation
+-- a truth has the same value at every valuation
 abbrev pub Always : Diagrams → Dia → Bool → Type 0
 Always s d b = (v : List Bool) → length v ≡ s.vars → truth_of s d v ≡ b
 
@@ -24,7 +24,7 @@ pub record Stay (old new : Diagrams) : Type 0 where
   pub stay : (d : Dia) → IsDia old d → IsDia new d
   pub truths : (d : Dia) → IsDia old d → (v : List Bool) → truth_of new d v ≡ truth_of old d v
 
--- turning variable x changes the truth at some valuation
+-- flipping variable x changes the truth at some valuation
 abbrev pub Depends : Diagrams → Dia → ℕ → Type 0
 Depends s d x = (v : List Bool) × (length v ≡ s.vars) × (truth_of s d (set v x false) ≢ truth_of s d (set v x true))
 

@@ -1,4 +1,4 @@
--- The table of results: each entry holds what an operation answered, and a new one overwrites the old.
+-- The table of results: each entry holds the result of an operation, and a new entry overwrites an old one.
 use Rattle.std.specs.Prelude.{ℕ, List, ◌≡◌, slice_get, Some}
 use Rattle.bdd_core.specs.declared.results.Op.TheVariants.{And}
 use Rattle.bdd_core.specs.declared.results.OpKey.{OpKey}

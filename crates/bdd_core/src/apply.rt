@@ -8,7 +8,7 @@ use crate::results::{Op, OpKey};
 use crate::store::Store;
 use y86_base::Memory;
 
-/// The parts of both arguments of an operation under the first variable that decides one of them.
+/// The parts of both arguments of an operation under the first variable that decides either of them.
 #[derive(Clone, Copy)]
 pub struct OperandSplit {
     pub var: u32,
@@ -18,7 +18,7 @@ pub struct OperandSplit {
     pub high_right: u32,
 }
 
-/// What an operation answers that needs no look at the nodes.
+/// The result of an operation, if it can be found without a look at the nodes.
 fn settled(key: OpKey) -> Option<u32>
     ensures settled { IfSome result (IsSettled key) }
     ensures open { IfNone result (2 ≤ key.left) }
@@ -58,7 +58,7 @@ fn high_part(node: ChoiceNode, var: u32, d: u32) -> u32
 }
 
 impl Store {
-    /// Splits an operation.
+    /// Splits an operation into those on the low and on the high parts.
     #[tactic(auto, using(crate::proofs::Applying::splits))]
     fn split(&self, key: OpKey) -> OperandSplit
         requires key { IsKey self.now key }
@@ -77,7 +77,7 @@ impl Store {
         }
     }
 
-    /// The diagram that an operation answers.
+    /// The diagram that is the result of an operation.
     #[tactic(auto, using(crate::proofs::Applying::key_kept, crate::proofs::Applying::split_kept, crate::proofs::Applying::answer_kept, crate::proofs::Truths::keeps_self, crate::proofs::Truths::keeps_more))]
     pub fn apply(&mut self, key: OpKey) -> Result<u32, Memory>
         requires { IsKey self.old key }
@@ -107,7 +107,7 @@ impl Store {
         self.finish(key, split, low, high)
     }
 
-    /// Joins the answers on both parts, and remembers the answer on the whole.
+    /// Joins the results for both parts, and caches the result for the whole.
     #[tactic(auto, using(crate::proofs::Applying::low_later, crate::proofs::Applying::high_later))]
     fn finish(
         &mut self,

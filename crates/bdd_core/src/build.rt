@@ -1,4 +1,4 @@
-//! The diagram of a gate, from those of the gates that it reads.
+//! Each kind of gate as an operation on the diagrams of the gates that it reads.
 ghost use Rattle.std.specs.Prelude.{IfOk, length};
 ghost use Rattle.nets.specs.Nets.{ReadsEarlier};
 ghost use Rattle.bdd_core.specs.Building.{AreMade, IsMadeOf};

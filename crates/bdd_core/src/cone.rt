@@ -1,4 +1,4 @@
-//! The gates from which the truth of a gate comes.
+//! The gates on which the truth of a gate depends.
 ghost use Rattle.std.specs.Prelude.{◌≡◌, ℕ, ◌<◌, ◌≤◌, IfOk, get_or, length, slice_get, Some, true, false};
 ghost use Rattle.nets.specs.declared.net.Gate.{Gate};
 ghost use Rattle.bdd_core.specs.Building.{IsCone, ReadsMarked};
@@ -28,7 +28,7 @@ fn mark(needed: &mut [bool], i: u64, n: &Net)
     }
 }
 
-/// Marks the gates from which the truth of gate `gate` comes.
+/// Marks the gates on which the truth of gate `gate` depends.
 #[tactic(auto, using(crate::proofs::Gates::cone_started, crate::proofs::Gates::cone_more, crate::proofs::Gates::cone_ended))]
 pub fn cone(alloc: Global, n: &Net, gate: u64) -> Result<Vec<bool>, Memory>
     requires { gate < length n.now.gates }

@@ -1,4 +1,5 @@
-//! The diagrams of formulas over one net, one after another: of each only the gates from which its truth comes.
+//! The diagrams of formulas over one net, one after another: for each formula, only the gates on which its truth
+//! depends.
 ghost use Rattle.std.specs.Prelude.{◌≡◌, ℕ, ◌+◌, ◌<◌, false, get_or, IfOk, OnOk, length, slice_get, Some, true};
 ghost use Rattle.nets.specs.Nets.{ReadsEarlier};
 ghost use Rattle.nets.specs.declared.net.Gate.{Gate};
@@ -13,7 +14,8 @@ use std::alloc::Global;
 use std::marker::Model;
 use y86_base::Memory;
 
-/// Which gates of a net have diagrams, and these: what one formula over the net leaves for the next.
+/// The gates of a net that have diagrams, and these diagrams, so that the next formula over the net needn't build them
+/// again.
 #[derive(Drop)]
 pub struct GateDiagrams {
     known: Vec<bool>,
@@ -60,7 +62,7 @@ fn reads_known(known: &[bool], n: &Net, i: u64) -> bool
 }
 
 impl Store {
-    /// The diagram of a gate, where those that it reads have theirs.
+    /// Builds the diagram of a gate from those of the gates that it reads.
     #[tactic(auto, using(crate::proofs::Knowing::known_stays, crate::proofs::Knowing::are_made, crate::proofs::Truths::keeps_self))]
     fn add_to(&mut self, n: &Net, built: &mut GateDiagrams, i: u64) -> Result<(), Memory>
         requires vars { n.now.vars ≡ self.old.vars }
@@ -80,7 +82,7 @@ impl Store {
         Ok(())
     }
 
-    /// The diagram of gate `i`, if it is marked and has none.
+    /// Builds the diagram of gate `i`, if it is marked and has none.
     #[tactic(auto, using(crate::proofs::Knowing::reads_known, crate::proofs::Knowing::one_more, crate::proofs::Truths::keeps_self))]
     fn add_marked(
         &mut self,
@@ -107,7 +109,7 @@ impl Store {
         self.add_to(n, built, i)
     }
 
-    /// The diagrams of the gates from which the truth of a gate comes.
+    /// Builds the diagrams of the gates on which the truth of a gate depends.
     #[tactic(auto, using(crate::proofs::Truths::keeps_self, crate::proofs::Truths::keeps_more))]
     fn add_cone(&mut self, n: &Net, built: &mut GateDiagrams, gate: u64) -> Result<(), Memory>
         requires vars { n.now.vars ≡ self.old.vars }
@@ -129,7 +131,7 @@ impl Store {
         Ok(())
     }
 
-    /// The diagram of a gate, if it has none.
+    /// Builds the diagram of a gate, if it has none.
     #[tactic(auto, using(crate::proofs::Truths::keeps_self))]
     fn add_for(&mut self, n: &Net, built: &mut GateDiagrams, gate: u64) -> Result<(), Memory>
         requires vars { n.now.vars ≡ self.old.vars }
@@ -151,8 +153,8 @@ impl Store {
         self.add_cone(n, built, gate)
     }
 
-    /// The diagram of a gate of a net: its truth is the gate's at every valuation. The gates that `built` has aren't built
-    /// again; also where memory is refused, the earlier diagrams stay.
+    /// The diagram of a gate of a net: its truth is the gate's at every valuation. Gates that have a diagram in `built`
+    /// aren't built again. If memory runs out, the earlier diagrams stay.
     #[tactic(auto, using(crate::proofs::Gates::stays, crate::proofs::Knowing::known_stays, crate::proofs::Knowing::built_is))]
     pub fn build_on(&mut self, n: &Net, built: &mut GateDiagrams, gate: u64) -> Result<Dia, Memory>
         requires vars { n.now.vars ≡ self.old.vars }

@@ -1,4 +1,4 @@
-//! What diagrams say of the truths that they stand for.
+//! What the diagrams say about their truths.
 ghost use Rattle.std.specs.Prelude.{◌≡◌, ◌↔◌, ℕ, List, Bool, IfOk, IsTrue, MatchOption, length, true};
 ghost use Rattle.bdd_core.specs.Meaning.{Always, IsDia, IsLeastFalsifying, IsNode, truth_of};
 
@@ -7,8 +7,8 @@ use nets::Valuation;
 use y86_base::{Items, Memory};
 
 impl Store {
-    /// What stands at the root of a diagram: `False` or `True` exactly where its truth is the same at every
-    /// valuation, else the first variable on which it depends, and both parts. It takes no memory.
+    /// The root of a diagram: `False` or `True` exactly if its truth is the same at every valuation, else the first
+    /// variable on which it depends, and both parts. It allocates no memory.
     #[tactic(auto, using(crate::proofs::Exact::node_false, crate::proofs::Exact::node_true))]
     pub fn node(&self, d: Dia) -> Node
         requires { IsDia self.now d }
@@ -42,7 +42,7 @@ impl Store {
         d.id == 1
     }
 
-    /// Whether two diagrams have the same truth at every valuation. It takes no memory.
+    /// Whether two diagrams have the same truth at every valuation. It allocates no memory.
     pub fn same(&self, a: Dia, b: Dia) -> bool
         requires left { IsDia self.now a }
         requires right { IsDia self.now b }
@@ -52,8 +52,8 @@ impl Store {
         a.id == b.id
     }
 
-    /// The least valuation at which a diagram is false, in the order of the variables and 0 before 1. `None` where it
-    /// is valid.
+    /// The least valuation at which a diagram is false, in the order of the variables and 0 before 1. `None` if it is
+    /// valid.
     #[tactic(auto, using(crate::proofs::Exact::node_true, crate::proofs::Least::down_start))]
     pub fn least_false(&self, d: Dia) -> Result<Option<Valuation>, Memory>
         requires { IsDia self.now d }

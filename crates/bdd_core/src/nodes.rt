@@ -39,10 +39,10 @@ impl Model for Nodes {
 }
 
 impl Nodes {
-    /// How many nodes there may be, so that each number fits in 32 bits.
+    /// The maximal number of nodes, so that each node's number fits in 32 bits.
     const MOST: usize = 4_000_000_000;
 
-    /// No nodes, and no more than `most` of them later.
+    /// No nodes, and later at most `most` of them.
     pub fn new(alloc: Global, vars: u32, most: u64) -> Nodes
         ensures vars { result.vars ≡ vars }
         ensures none { result.nodes ≡ [] }
@@ -65,7 +65,7 @@ impl Nodes {
         self.vars
     }
 
-    /// How many nodes there are, without the two ends.
+    /// The number of nodes, without the two ends.
     pub fn len(&self) -> usize
         ensures { result ≡ length self.now.nodes }
     {
@@ -87,7 +87,7 @@ impl Nodes {
         }
     }
 
-    /// The number of a node that is there.
+    /// The number of a node, if it exists already.
     fn find(&self, c: ChoiceNode) -> Option<u32>
         ensures { find_result self.now.nodes c result }
     {
@@ -97,7 +97,7 @@ impl Nodes {
         }
     }
 
-    /// Puts a node behind the others.
+    /// Adds a node after the others.
     #[tactic(auto, using(crate::proofs::Making::unique_pushed, crate::proofs::Making::front, crate::proofs::Making::nodes_table, crate::proofs::Making::nodes_pushed))]
     fn add(&mut self, c: ChoiceNode) -> Result<u32, Memory>
         requires branch { IsBranch self.old c }
@@ -118,7 +118,7 @@ impl Nodes {
         Ok((at + 2) as u32)
     }
 
-    /// The diagram that decides `var` between two others. Where they are the same it is they.
+    /// The diagram that decides `var` between two others. If they are the same, it is that one.
     #[tactic(auto, using(crate::proofs::Making::made_same, crate::proofs::Making::made_found, crate::proofs::Making::made_pushed, crate::proofs::Making::keeps_pushed, crate::proofs::Truths::keeps_self))]
     pub fn make(&mut self, var: u32, low: u32, high: u32) -> Result<u32, Memory>
         requires var { var < self.old.vars }

@@ -1,4 +1,4 @@
-//! Results of operations on diagrams that are remembered, in a table that forgets.
+//! Cached results of operations on diagrams, in a table that forgets.
 ghost use Rattle.std.specs.Prelude.{◌≡◌, ◌⊎◌, ℕ, IfOk, IfSome, Some, slice_get, true};
 ghost use Rattle.bdd_core.specs.Results.{AreBlank, IsCached};
 
@@ -20,14 +20,13 @@ pub struct OpKey {
     pub right: u32,
 }
 
-/// An operation and the diagram that it answers.
+/// An operation and the diagram that is its result.
 #[derive(Clone, Copy, Debug)]
 pub struct CachedResult {
     pub key: OpKey,
     pub answer: u32,
 }
 
-/// Whether two operations are the same.
 fn same(a: OpKey, b: OpKey) -> bool
     ensures { result ≡ true → a ≡ b }
 {
@@ -38,7 +37,7 @@ fn same(a: OpKey, b: OpKey) -> bool
     op && a.left == b.left && a.right == b.right
 }
 
-/// The place of an operation among so many results.
+/// The place of an operation in a table of `size` results.
 fn place(key: OpKey, size: usize) -> usize {
     let op = match key.op {
         Op::And => 0,
@@ -50,7 +49,7 @@ fn place(key: OpKey, size: usize) -> usize {
     (mixed >> 32) as usize & size.wrapping_sub(1)
 }
 
-/// The result that is remembered of an operation.
+/// The cached result of an operation, if there is one.
 pub fn known(entries: &[CachedResult], key: OpKey) -> Option<u32>
     ensures { IfSome result (IsCached entries.now key) }
 {
@@ -66,7 +65,7 @@ pub fn known(entries: &[CachedResult], key: OpKey) -> Option<u32>
     }
 }
 
-/// Remembers a result, in the place of an older one.
+/// Caches a result, which may overwrite an older one.
 pub fn remember(entries: &mut [CachedResult], key: OpKey, answer: u32)
     ensures { (i : ℕ) (e : CachedResult) → slice_get entries.new i ≡ Some e →
         (slice_get entries.old i ≡ Some e) ⊎ (e ≡ record { key = key; answer = answer }) }
@@ -77,13 +76,13 @@ pub fn remember(entries: &mut [CachedResult], key: OpKey, answer: u32)
     }
 }
 
-/// How many results are remembered at first: a power of 2, so that a place is a few bits of a product.
+/// The number of results that are cached at first: a power of 2, so that a place is a few bits of a product.
 pub const FIRST_RESULTS: usize = 4_096;
 
-/// How many are remembered at most, a power of 2 too: a longer table takes longer to look up than it saves.
+/// The maximal number of cached results, a power of 2 too: a longer table takes longer to look up than it saves.
 pub const MOST_RESULTS: usize = 65_536;
 
-/// Places for results, in each of which stands that falsehood and falsehood is falsehood.
+/// Places for results. Each place holds a true result: falsehood and falsehood is falsehood.
 pub fn blanks(alloc: Global, size: usize) -> Result<Vec<CachedResult>, Memory>
     ensures { IfOk result (λ entries. AreBlank entries.items) }
 {

@@ -1,4 +1,4 @@
-//! A store of decision diagrams, and what is asked of one diagram.
+//! A store of decision diagrams, and the operations on one diagram.
 ghost use Rattle.std.specs.Prelude.{◌≡◌, ℕ, ◌+◌, ◌^◌, ◌<◌, ◌≤◌, ◌↔◌, List, Bool, [], true, length, IfOk, IfSome, MatchOption, IsTrue};
 ghost use Rattle.bdd_core.specs.Answers.{IsAnswer, IsKey, IsMade};
 ghost use Rattle.bdd_core.specs.Diagrams.{IsReduced, Keeps, at, count};
@@ -16,7 +16,7 @@ pub struct Dia {
     pub id: u64,
 }
 
-/// What stands at the root of a diagram.
+/// The root of a diagram.
 #[derive(Clone, Copy, Debug, PartialEq, Eq)]
 pub enum Node {
     False,
@@ -53,8 +53,8 @@ impl Store {
         Store::bounded(alloc, vars, u64::MAX, u64::MAX)
     }
 
-    /// A store in which no more than `steps` operations and `nodes` nodes are made: behind them it answers as where memory
-    /// is refused.
+    /// A store in which at most `steps` operations and `nodes` nodes are made. After them it reports that memory ran
+    /// out.
     pub fn bounded(alloc: Global, vars: u32, steps: u64, nodes: u64) -> Store
         ensures vars { result.vars ≡ vars }
         ensures none { result.nodes ≡ [] }
@@ -67,7 +67,7 @@ impl Store {
         }
     }
 
-    /// Takes one step of those that are left, and first widens the table of results where it has become full for its size.
+    /// Takes one of the remaining steps, and first widens the table of results if it has become too small.
     pub(crate) fn take_step(&mut self) -> Result<(), Memory>
         ensures { self.new ≡ self.old }
     {
@@ -84,7 +84,7 @@ impl Store {
         self.alloc
     }
 
-    /// Takes the places for results, where they aren't taken yet.
+    /// Allocates the places for results, if that isn't done yet.
     #[tactic(auto, using(crate::proofs::Applying::blank_answers, crate::proofs::Truths::keeps_self))]
     pub(crate) fn ready(&mut self) -> Result<(), Memory>
         ensures kept { Keeps self.old self.new }
@@ -97,8 +97,8 @@ impl Store {
         Ok(())
     }
 
-    /// Takes four times as many places for results, where there are more nodes than places: what was remembered is
-    /// forgotten. Where memory is refused, the places that are there serve on.
+    /// Allocates four times as many places for results, if there are more nodes than places. The cached results are
+    /// forgotten. If memory runs out, the table stays as it is.
     #[tactic(auto, using(crate::proofs::Applying::blank_answers))]
     fn widen(&mut self)
         ensures { self.new ≡ self.old }
@@ -112,7 +112,7 @@ impl Store {
         }
     }
 
-    /// The number of variables; and what holds of the diagrams of every store.
+    /// The number of variables. The contract also gives what is true of the diagrams of every store.
     pub(crate) fn vars(&self) -> u32
         ensures vars { result ≡ self.now.vars }
         ensures reduced_after { IsReduced self.now }
@@ -149,7 +149,7 @@ impl Store {
         d
     }
 
-    /// The result that is remembered of an operation.
+    /// The cached result of an operation, if there is one.
     #[tactic(auto, using(crate::proofs::Applying::recalled))]
     pub(crate) fn recall(&self, key: OpKey) -> Option<u32>
         ensures { IfSome result (IsAnswer self.now key) }
@@ -157,7 +157,7 @@ impl Store {
         known(self.results.as_slice(), key)
     }
 
-    /// Remembers a result.
+    /// Caches a result.
     #[tactic(auto, using(crate::proofs::Applying::remembered))]
     pub(crate) fn keep(&mut self, key: OpKey, answer: u32)
         requires { IsAnswer self.old key answer }

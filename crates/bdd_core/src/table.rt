@@ -7,7 +7,7 @@ use crate::nodes::ChoiceNode;
 use std::alloc::Global;
 use y86_base::Memory;
 
-/// What a look for a node comes to: its number, or the place that is free for it, or neither.
+/// The outcome of a search for a node: its number, the place that is free for it, or neither.
 #[derive(Clone, Copy)]
 pub enum Lookup {
     Present(u32),
@@ -15,7 +15,6 @@ pub enum Lookup {
     Full,
 }
 
-/// Whether two nodes are the same.
 fn same(a: ChoiceNode, b: ChoiceNode) -> bool
     ensures { result ≡ same_node a b }
 {
@@ -33,7 +32,7 @@ fn names(list: &[ChoiceNode], p: u32, c: ChoiceNode) -> bool
     }
 }
 
-/// A look through some places in order.
+/// Searches some places in order.
 #[tactic(auto, using(crate::proofs::Looking::look_start, crate::proofs::Looking::look_free, crate::proofs::Looking::look_found, crate::proofs::Looking::look_more, crate::proofs::Looking::look_end))]
 fn look_through(list: &[ChoiceNode], c: ChoiceNode, places: &[u32]) -> Lookup
     ensures look { result ≡ tables.look_through list.now c places.now }
@@ -51,8 +50,9 @@ fn look_through(list: &[ChoiceNode], c: ChoiceNode, places: &[u32]) -> Lookup
     Lookup::Full
 }
 
-/// The place at which the look for a node begins: the upper half of a product, by Knuth's multiplicative hashing, and of it
-/// as many bits as a size has. A size is a power of 2: a division would take longer than the rest of the look.
+/// The place at which the search for a node begins: the upper half of a product, by Knuth's multiplicative hashing,
+/// reduced to as many bits as the size has. A size is a power of 2: a division would take longer than the rest of the
+/// search.
 #[tactic(auto, unfolding(crate::specs::Tables::home_of, crate::specs::Tables::hash_of), using(std::proofs::lemmas::Nat::and_le_r))]
 fn home(c: ChoiceNode, size: usize) -> usize
     requires { 0 < size }
@@ -66,7 +66,7 @@ fn home(c: ChoiceNode, size: usize) -> usize
     (mixed >> 32) as usize & (size - 1)
 }
 
-/// The look for a node.
+/// Searches the places for a node, from its home to the end and on from the beginning.
 #[tactic(auto, using(crate::proofs::Tables::search_none), unfolding(crate::specs::Tables::searched))]
 pub fn search(list: &[ChoiceNode], c: ChoiceNode, places: &[u32]) -> Lookup
     ensures search { result ≡ tables.searched list.now c places.now }
@@ -83,7 +83,7 @@ pub fn search(list: &[ChoiceNode], c: ChoiceNode, places: &[u32]) -> Lookup
     }
 }
 
-/// Writes the number of node `at` to the place where the look for it ends.
+/// Writes the number of node `at` to the place where the search for it ends.
 #[tactic(auto, using(crate::proofs::Putting::put_free))]
 pub fn put(list: &[ChoiceNode], at: usize, places: &mut [u32])
     requires inside { at < length list.now }
@@ -117,7 +117,7 @@ fn table_of(alloc: Global, list: &[ChoiceNode], size: usize) -> Result<Vec<u32>,
     Ok(places)
 }
 
-/// How many places follow on some: twice as many.
+/// The next larger number of places: twice as many.
 fn larger(size: usize) -> Result<usize, Memory>
     ensures { IfOk result (λ n. size < n) }
 {
@@ -130,7 +130,7 @@ fn larger(size: usize) -> Result<usize, Memory>
     }
 }
 
-/// Makes room for one more node: a table that is three quarters full is doubled.
+/// Ensures that there is space for another node: a table that is three quarters full is doubled.
 #[tactic(auto, using(crate::proofs::Putting::table_size))]
 pub fn with_room(alloc: Global, list: &[ChoiceNode], places: &mut Vec<u32>) -> Result<(), Memory>
     requires few { length list.now < 2 ^ 32 - 2 }

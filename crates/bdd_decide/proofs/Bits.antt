@@ -1,4 +1,4 @@
--- The first bits of a valuation: which part it is in, and which of two is in an earlier one.
+-- The first bits of a valuation: the part that it is in, and which of two valuations is in an earlier part.
 use Rattle.std.proofs.Common.{◌≡◌, ℕ, zero, suc, ◌+◌, ◌*◌, ◌/◌, ◌%◌, ◌^◌, ◌<◌, ◌==◌, inl, inr, Bool, true, false, List, [], ◌∷◌, get_or, refl, sym, ap, ◌∙◌, arith}
 use Rattle.std.proofs.lemmas.Bool.{cases_lt}
 use Rattle.std.proofs.lemmas.Bool.Decides.{nat_tests}
@@ -23,7 +23,7 @@ odd : (s : ℕ) (b : Bool) → ((2 * s + bit b) % 2 == 1) ≡ b
 odd s true = grind (arith, nat_tests)
 odd s false = grind (arith, nat_tests)
 
--- the bits that a valuation spells are its own
+-- the bits of the number that a valuation spells are the valuation's own
 own_bits : (k : ℕ) (w : List Bool) (i : ℕ) → i < k → get_or (spell k (spelt w 0 k)) i false ≡ get_or w i false
 own_bits zero w i lt = absurd (omega (arith, lt))
 own_bits (suc k) w i lt = elim (cases_lt i k) [

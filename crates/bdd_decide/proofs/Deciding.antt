@@ -1,4 +1,4 @@
--- What a pass tells, and what is decided behind it.
+-- The result of a pass, and the decision after it.
 use Rattle.std.proofs.Common.{◌≡◌, ◌⊎◌, ◌↔◌, ℕ, zero, suc, ◌+◌, ◌-◌, ◌<◌, ◌≤◌, inl, inr, IsTrue, Bool, true, false, List, [], ◌∷◌, length, drop, get_or, refl, sym, ap, ◌∙◌, subst, arith}
 use Rattle.std.proofs.lemmas.Bool.{cases_eq, cases_lt, false≢true}
 use Rattle.std.proofs.lemmas.List.{get_or-drop, length-drop}
@@ -14,7 +14,7 @@ use Rattle.bdd_decide.specs.Splitting.{AreTrueTo, IsGateFalseAt}
 pub always_true : (s : Diagrams) (n : Gates) (gate : ℕ) (d : Dia) → s.vars ≡ n.vars → IsBuilt s n gate d → Always s d true → IsAlwaysTrue n gate
 always_true s n gate d e built always w size = sym (built.is w (size ∙ sym e)) ∙ always w (size ∙ sym e)
 
--- either a truth of so many bits holds of all, or it fails of some
+-- a truth over n bits is true at all valuations, or false at some
 some_false : (n : ℕ) (f : List Bool → Bool) → ((w : List Bool) → length w ≡ n → f w ≡ true) ⊎ ((w : List Bool) × (length w ≡ n) × (f w ≡ false))
 some_false zero f = by (f []) refl
   where
@@ -70,7 +70,7 @@ false_decided n gates k gate e d =
     let f = d.no refl in
     (f.0, record { size = f.1; fails = ap (λ (g : ℕ). truth n g f.0) (sym e) ∙ f.2 })
 
--- ---- behind a pass
+-- ---- after a pass
 
 -- the gates from place m on, as a list
 drop_at : (m : ℕ) (gates : List ℕ) (j : ℕ) → get_or (drop m gates) j 0 ≡ get_or gates (m + j) 0
@@ -119,7 +119,7 @@ alone_not n gates xs m gate e is w fails always =
     let here : IsAlwaysTrue n (get_or gates m 0) = subst (IsAlwaysTrue n) (ap (λ (ys : List ℕ). get_or ys 0 0) is ∙ e) (always 0 inside) in
     false≢true (sym fails.fails ∙ here w fails.size)
 
--- what is decided of one gate alone
+-- the decision on one gate alone
 pub one_gate : (n : Gates) (gate : ℕ) (xs : List ℕ) → gate < length n.gates → xs ≡ gate ∷ [] → AreGatesOfNet n xs
 one_gate n gate xs inside is k lt =
     let z : k ≡ 0 = (let s = ap length is in omega (arith, lt, s)) in

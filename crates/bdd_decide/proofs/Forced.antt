@@ -1,4 +1,4 @@
--- Bits that false gates force, in a copy: the copy tells the same of these gates.
+-- Bits that false gates force, put into a copy: the copy gives the same decision on these gates.
 use Rattle.std.proofs.Common.{◌≡◌, ℕ, ◌<◌, Bool, true, false, List, length, get_or, refl, sym, ap, ◌∙◌, subst, arith}
 use Rattle.std.proofs.lemmas.Bool.{false≢true}
 use Rattle.nets.specs.Nets.{Gates, truth}

@@ -1,4 +1,5 @@
--- What a copy tells of the whole net: its gates stand for those of the net in the part by no bits, which is all valuations.
+-- What a copy shows about the whole net: its gates represent those of the net in the part by no bits, which is all
+-- valuations.
 use Rattle.std.proofs.Common.{◌≡◌, ℕ, ◌<◌, ◌≤◌, inl, inr, Bool, false, List, [], ◌∷◌, ◌++◌, length, get_or, refl, sym, ap, ◌∙◌, subst, arith}
 use Rattle.std.proofs.lemmas.Bool.{cases_eq}
 use Rattle.std.proofs.lemmas.List.{get_or_append_left, get_or_push, length_push}
@@ -16,7 +17,7 @@ spelt_none : (w : List Bool) → spelt w 0 0 ≡ 0
 unfolding spelt
 spelt_none w = refl
 
--- ---- a copy whose variables stand in another order
+-- ---- a copy whose variables are in another order
 
 module _ (n : Gates) (copy : SubstitutedNet) (gates chosen : List ℕ) (h : IsCofactorNet n [] copy) (of : AreGatesOfNet n gates) (picked : AreChosen copy.gates gates (length gates) chosen) where
   begins : (w : List Bool) → BeginsWith [] w
@@ -44,7 +45,7 @@ module _ (n : Gates) (copy : SubstitutedNet) (gates chosen : List ℕ) (h : IsCo
   pub part_stands : IsSubproblemOf n gates (length gates) 0 0 (record { net = copy.net; gates = chosen })
   part_stands = record { size = picked.size; inside = chosen_inside; yes = λ j lt always w size starts. true_whole j lt always w size; no = false_whole }
 
--- ---- what is found of a copy that stands for the whole net
+-- ---- what is found in a copy that represents the whole net
 
 module _ (n : Gates) (gates : List ℕ) (c : Subproblem) (h : IsSubproblemOf n gates (length gates) 0 0 c) where
   yes : (j : ℕ) → j < length gates → IsAlwaysTrue c.net (get_or c.gates j 0) → IsAlwaysTrue n (get_or gates j 0)
@@ -72,7 +73,7 @@ module _ (n : Gates) (gates : List ℕ) (c : Subproblem) (h : IsSubproblemOf n g
     no = λ f. (let w = d.no f in let there = no k lt w.0 (record { size = w.1; fails = ap (λ (g : ℕ). truth c.net g w.0) (sym e) ∙ w.2 }) in (there.0, there.1.size, there.1.fails));
   }
 
--- one truth more
+-- another truth
 pub decided_more : (n : Gates) (gates : List ℕ) (k : ℕ) (truths : List Bool) (b : Bool) → length truths ≡ k → AreDecided n gates truths → IsDecided n (get_or gates k 0) b →
     AreDecided n gates (truths ++ b ∷ [])
 decided_more n gates k truths b size h d = record {

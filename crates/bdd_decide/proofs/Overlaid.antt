@@ -1,4 +1,4 @@
--- The least valuation of which a gate is false, found in a copy in which the bits stand that variables have wherever it is false.
+-- The least valuation at which a gate is false, found in a copy with the bits that variables have wherever it is false.
 use Rattle.std.proofs.Common.{◌≡◌, ℕ, zero, suc, ◌<◌, Bool, true, false, List, [], ◌∷◌, length, get_or, refl, sym, ap, ◌∙◌, subst, arith}
 use Rattle.std.proofs.lemmas.Bool.{false≢true}
 use Rattle.nets.specs.Nets.{Gates, truth}
@@ -43,7 +43,7 @@ forced_sources n gate to h = record {
   within = λ i x lt e. (let inside : i < n.vars = (let z = h.size in omega (arith, lt, z)) in let same = h.own i x inside e in omega (arith, inside, same));
 }
 
--- ---- a valuation's bits where bits stand, and another's elsewhere
+-- ---- a valuation's bits where bits are put in, and another's elsewhere
 
 overlaid : List Replacement → List Bool → List Bool → List Bool
 overlaid [] us zs = zs
@@ -82,7 +82,7 @@ overlaid_var (Var y ∷ to) (u ∷ us) (z ∷ zs) zero x eu ez lt is = refl
 overlaid_var (Const c ∷ to) (u ∷ us) (z ∷ zs) (suc i) x eu ez lt is = overlaid_var to us zs i x (omega (arith, eu)) (omega (arith, ez)) (omega (arith, lt)) is
 overlaid_var (Var y ∷ to) (u ∷ us) (z ∷ zs) (suc i) x eu ez lt is = overlaid_var to us zs i x (omega (arith, eu)) (omega (arith, ez)) (omega (arith, lt)) is
 
--- ---- what the copy's diagram tells
+-- ---- what the copy's diagram shows
 
 module _ (n : Gates) (gate : ℕ) (to : List Replacement) (h : AreForcedBits n gate to) (copy : Gates) (g : ℕ) (tells : (u : List Bool) → truth copy g u ≡ truth n gate (behind to u))
     (s : Diagrams) (d : Dia) (vars : s.vars ≡ n.vars) (built : IsBuilt s copy g d) where
@@ -101,7 +101,7 @@ module _ (n : Gates) (gate : ℕ) (to : List Replacement) (h : AreForcedBits n g
     size_u : length u ≡ length to
     size_u = least.size ∙ (vars ∙ sym h.size)
 
-    -- the bits behind u are its own but where a bit stands
+    -- the net's valuation for u has the bits of u, except where a bit is put in
     behind_var : (i x : ℕ) → i < n.vars → get_or to i (Const false) ≡ Var x → get_or (behind to u) i false ≡ get_or u i false
     behind_var i x lt is =
         read_at to u i (let z = h.size in omega (arith, lt, z)) ∙ (ap (source_truth u) is ∙ ap (λ (j : ℕ). get_or u j false) (h.own i x lt is))

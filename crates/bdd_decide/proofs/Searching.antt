@@ -23,7 +23,7 @@ module _ (n : Gates) (gates : List ℕ) (k p m part : ℕ) (so_far : IsSearched 
   pub search_zero : m ≡ 0 → IsSearched n gates k (p + 1) m part
   search_zero e = record { within = so_far.within; earlier = λ j lt. absurd (omega (arith, lt, e)); small = so_far.small; before = so_far.before; fails = so_far.fails }
 
-  -- gates that are true in one part more
+  -- gates that are true in another part too
   one_more : (l : ℕ) → l ≤ m → ((j : ℕ) → j < l → IsTrueWhere n (get_or gates j 0) k p) → (j : ℕ) → j < l → (q : ℕ) → q < p + 1 → IsTrueWhere n (get_or gates j 0) k q
   one_more l le here j lt q less = elim (cases_eq q p) [
     | inl e ↦ subst (IsTrueWhere n (get_or gates j 0) k) (sym e) (here j lt)
@@ -54,12 +54,12 @@ module _ (n : Gates) (gates : List ℕ) (k p m part : ℕ) (so_far : IsSearched 
         fails = λ at. stand.no l less w fails;
       }
 
--- ---- behind all parts
+-- ---- after all parts
 
 pub all_true : (n : Gates) (gates : List ℕ) (k m p : ℕ) → IsSearched n gates k (2 ^ k) m p → m ≡ length gates → (j : ℕ) → j < length gates → IsAlwaysTrue n (get_or gates j 0)
 all_true n gates k m p h e j lt w size = h.earlier j (omega (arith, e, lt)) (spelt w 0 k) (spelt_lt w 0 k) w size refl
 
--- what a pass over the gates tells
+-- the result of a pass over the gates
 pub searched_true : (n : Gates) (gates : List ℕ) (k upto m p : ℕ) → upto ≡ 2 ^ k → IsSearched n gates k upto m p → m ≡ length gates → AreTrueTo n gates (length gates)
 searched_true n gates k upto m p all h e j lt = all_true n gates k m p (subst (λ (u : ℕ). IsSearched n gates k u m p) all h) e j lt
 
@@ -97,7 +97,7 @@ first_found n gates k m p w h lt least = record {
   least = least_of_all n (get_or gates m 0) k p w (h.before lt) least;
 }
 
--- a part in which a gate is false has a least valuation of which it is
+-- a part in which a gate is false has a least valuation at which it is false
 pub not_none : (n : Gates) (gates : List ℕ) (k m p : ℕ) → IsSearched n gates k (2 ^ k) m p → m < length gates → IsTrueWhere n (get_or gates m 0) k p → ⊥
 not_none n gates k m p h lt always =
     let f = h.fails lt in

@@ -1,4 +1,5 @@
--- What stands in the places of the variables in the copy for a part: what the copy tells of the part, and where the least valuation is.
+-- The replacements of the variables in the copy for a part: what the copy shows about the part, and where the least
+-- valuation is.
 use Rattle.std.proofs.Common.{◌≡◌, ◌⊎◌, ℕ, zero, suc, ◌^◌, ◌<◌, ◌≤◌, inl, inr, Bool, false, List, [], ◌∷◌, length, get_or, refl, sym, ap, ◌∙◌, subst, arith}
 use Rattle.std.proofs.lemmas.Bool.{cases_lt, lt-ltb, le-ltb}
 use Rattle.nets.specs.Nets.{Gates, truth}
@@ -45,7 +46,7 @@ module _ (k p vars : ℕ) (to : List Replacement) (h : AreSourcesIn k p vars to)
       read_at to u i (let z = h.size in omega (arith, lt, z))
       ∙ (ap (source_truth u) (h.each i lt) ∙ source_high u k p i le)
 
-  -- a valuation of the part is behind itself
+  -- a valuation of the part is the net's valuation for itself
   behind_self : (w : List Bool) → length w ≡ vars → spelt w 0 k ≡ p → behind to w ≡ w
   behind_self w size e =
       same_list (behind to w) w (length_behind to w ∙ (h.size ∙ sym size)) (λ i lt. at i (let l = length_behind to w in let z = h.size in omega (arith, lt, l, z)))
@@ -132,12 +133,12 @@ module _ (k p : ℕ) (n : Gates) (to : List Replacement) (h : AreSourcesIn k p n
             | inr le2 ↦ sym (high k p n.vars to h bits u i le2 (omega (arith, l, lt))) ∙ (same i l ∙ sym (mixed_high k u z i both le2))
           ]
 
--- ---- what the copy tells of the part
+-- ---- what the copy shows about the part
 
 pub gates_made : (n : Gates) (gates made : List ℕ) → AreGatesOfNet n gates → length made ≡ length n.gates → (j : ℕ) → j < length gates → get_or gates j 0 < length made
 gates_made n gates made of size j lt = let g = of j lt in omega (arith, g, size)
 
--- a variable stands in one place alone
+-- a variable replaces only itself
 pub same_variable : (x y : ℕ) → Var x ≡ Var y → x ≡ y
 same_variable x y e = ap place e
   where

@@ -1,4 +1,4 @@
-//! The first gate that is false of a valuation.
+//! The first gate that is false at some valuation.
 ghost use Rattle.std.specs.Prelude.{◌≡◌, ◌<◌, ◌≤◌, IfOk, length};
 ghost use Rattle.bdd_decide.specs.Decisions.{AreGatesOfNet, IsGateDecision};
 ghost use Rattle.bdd_decide.specs.Splitting.{AreTrueTo};
@@ -11,35 +11,35 @@ use nets::{Net, Valuation, all_variables};
 use std::alloc::Global;
 use y86_base::Memory;
 
-/// A gate that is false of some valuation: its place in the list, and the least such valuation.
+/// A gate that is false at some valuation: its place in the list, and the least such valuation.
 #[derive(Debug, PartialEq, Drop)]
 pub struct Counterexample {
     pub place: usize,
     pub valuation: Valuation,
 }
 
-/// Orders of the variables for the diagrams. They are for time alone: none of them changes what is decided. One that lacks a
-/// variable isn't taken.
+/// Orders of the variables for the diagrams. They serve speed alone: none of them changes the decision. An order that
+/// lacks a variable isn't used.
 #[derive(Clone, Copy, Debug)]
 pub struct VariableOrders<'a> {
     /// For a pass over the whole net.
     pub whole: &'a [u32],
     /// For a part of the valuations.
     pub part: &'a [u32],
-    /// For a part whose diagrams become more than they may: by the first four it is parted again.
+    /// For a part whose diagrams exceed their bounds: it is split again by the first four variables of this order.
     pub again: &'a [u32],
 }
 
-/// How the valuations are parted (for the pipeline by the kinds of its stages).
+/// How the valuations are split at first (for the pipeline, by the kinds of its stages).
 const FIRST: CaseSplit = CaseSplit { bits: 6, parts: 64 };
 
-/// How many steps the diagrams of a whole net may take together.
+/// The maximal number of steps for all diagrams of a whole net together.
 const STEPS: u64 = 1_400_000;
 
-/// How many nodes they may have.
+/// The maximal number of their nodes.
 pub(crate) const NODES: u64 = 500_000;
 
-/// The decision part by part.
+/// Decides gates part by part.
 #[tactic(auto, using(crate::proofs::Searching::all_true, crate::proofs::Searching::first_found, crate::proofs::Searching::not_none))]
 pub fn decide_in_parts<P: SubproblemPass>(
     alloc: Global,
@@ -68,7 +68,7 @@ pub fn decide_in_parts<P: SubproblemPass>(
     }
 }
 
-/// The decision where the gates before a place are true.
+/// Decides gates when those before a place are known to be true.
 #[tactic(auto, using(crate::proofs::Deciding::later_gates, crate::proofs::Deciding::later_true, crate::proofs::Deciding::later_first))]
 fn decide_from<P: SubproblemPass>(
     alloc: Global,
@@ -91,8 +91,8 @@ fn decide_from<P: SubproblemPass>(
     }
 }
 
-/// The decision by a pass over the whole net, with its variables in the given order, and where that doesn't tell, part
-/// by part.
+/// Decides gates by a pass over the whole net, with its variables in the given order, and if that doesn't decide them,
+/// part by part.
 #[tactic(auto, using(crate::proofs::Deciding::alone_gates, crate::proofs::Deciding::alone_first, crate::proofs::Deciding::alone_not))]
 fn decide_by<P: SubproblemPass>(
     alloc: Global,
@@ -117,8 +117,8 @@ fn decide_by<P: SubproblemPass>(
     }
 }
 
-/// The first gate that is false of some valuation, by its place, with the least such valuation, the variables by their
-/// numbers and 0 before 1; `None` where every gate is true of every valuation. The diagrams have the given orders.
+/// The place of the first gate that is false at some valuation, with the least such valuation (variables by their
+/// numbers, 0 before 1), or `None` if every gate is true at every valuation. The diagrams use the given orders.
 pub fn decide_in_order(
     alloc: Global,
     net: &Net,
@@ -140,7 +140,7 @@ pub fn decide_in_order(
     )
 }
 
-/// The same, with the variables in the order of their numbers; no part is parted again.
+/// Like `decide_in_order`, with the variables in the order of their numbers; no part is split again.
 pub fn decide(alloc: Global, net: &Net, gates: &[u64]) -> Result<Option<Counterexample>, Memory>
     requires gates { AreGatesOfNet net.now gates.now }
     ensures { IfOk result (IsGateDecision net.now gates.now) }

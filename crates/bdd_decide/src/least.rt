@@ -1,4 +1,4 @@
-//! The least valuation of a part of which a gate is false.
+//! The least valuation of a part at which a gate is false.
 ghost use Rattle.std.specs.Prelude.{◌≡◌, ◌<◌, ◌≤◌, ◌^◌, IfOk, MatchOption, false, length};
 ghost use Rattle.nets.specs.Nets.{truth};
 ghost use Rattle.nets.specs.Substitution.{behind, source_truth};
@@ -11,7 +11,7 @@ use nets::{Net, Replacement, Valuation, forced, substitute};
 use std::alloc::Global;
 use y86_base::{Items, Memory};
 
-/// The truth of what stands in the place of a variable.
+/// The truth of a variable's replacement, at a valuation of the copy.
 fn source_bit(source: Replacement, u: &Valuation) -> bool
     ensures { result ≡ source_truth u.now.bits source }
 {
@@ -21,7 +21,7 @@ fn source_bit(source: Replacement, u: &Valuation) -> bool
     }
 }
 
-/// The valuation that belongs to one of a copy.
+/// The valuation of the net for a valuation of the copy.
 fn carried(alloc: Global, to: &[Replacement], u: &Valuation) -> Result<Valuation, Memory>
     ensures { IfOk result (λ w. w.bits ≡ behind to.now u.now.bits) }
 {
@@ -36,7 +36,7 @@ fn carried(alloc: Global, to: &[Replacement], u: &Valuation) -> Result<Valuation
     })
 }
 
-/// A bit as it is, and a variable in its own place.
+/// Keeps a bit as it is, and puts any variable back in its own place.
 fn own_source(source: Replacement, i: u32) -> Replacement
     ensures { result ≡ own source i }
 {
@@ -46,7 +46,7 @@ fn own_source(source: Replacement, i: u32) -> Replacement
     }
 }
 
-/// The bits that variables have wherever a gate is false, and each other variable in its own place.
+/// The bits that variables have wherever a gate is false; each other variable replaces itself.
 #[tactic(auto, using(crate::proofs::Deciding::one_gate))]
 fn forced_bits(alloc: Global, net: &Net, gate: u64) -> Result<Vec<Replacement>, Memory>
     requires { gate < length net.now.gates }
@@ -62,8 +62,8 @@ fn forced_bits(alloc: Global, net: &Net, gate: u64) -> Result<Vec<Replacement>, 
     Ok(to)
 }
 
-/// The least valuation of which a gate is false: the bits that it forces stand in a copy, whose diagrams are smaller. `None` where
-/// there is none.
+/// The least valuation at which a gate is false, or `None` if there is none. The bits that a false gate forces are put
+/// into a copy, whose diagrams are smaller.
 #[tactic(auto, using(crate::proofs::Overlaid::forced_sources))]
 fn least_false(alloc: Global, net: &Net, gate: u64) -> Result<Option<Valuation>, Memory>
     requires { gate < length net.now.gates }
@@ -82,7 +82,7 @@ fn least_false(alloc: Global, net: &Net, gate: u64) -> Result<Option<Valuation>,
     }
 }
 
-/// The least valuation of a part of which a gate is false. `None` where there is none.
+/// The least valuation of a part at which a gate is false, or `None` if there is none.
 #[tactic(auto, using(crate::proofs::Sources::are_sources))]
 pub fn least_in(
     alloc: Global,

@@ -1,7 +1,7 @@
-//! Decisions on formulas: which of several gates of a net is the first that is false of some valuation, with the least
-//! such valuation. First, a pass over the whole net with bounded diagrams decides nearly every list whose gates are
-//! all true. Where it doesn't, the valuations are searched part by part, by their first bits: the diagrams of the
-//! parts together are far smaller than those of the whole. A part whose diagrams are still large is split again.
+//! Decisions on formulas: which of several gates of a net is the first that is false at some valuation, with the least
+//! such valuation. First, a pass over the whole net with bounded diagrams decides nearly every list whose gates are all
+//! true. If it doesn't, the valuations are searched part by part, by their first bits: the diagrams of the parts
+//! together are far smaller than those of the whole. A part whose diagrams are still large is split again.
 #![tactic(auto)]
 
 mod decision;

@@ -1,4 +1,4 @@
-//! Which of several gates are true of every valuation.
+//! Which of several gates are true at every valuation.
 ghost use Rattle.std.specs.Prelude.{◌≡◌, ◌<◌, IfOk, IfSome, length};
 ghost use Rattle.bdd_decide.specs.Decisions.{AreDecided, AreGatesOfNet, IsDecided};
 ghost use Rattle.bdd_decide.specs.Splitting.{AreDiagramsOf};
@@ -12,11 +12,11 @@ use nets::Net;
 use std::alloc::Global;
 use y86_base::Memory;
 
-/// How many steps the diagrams of several gates may take together.
+/// The maximal number of steps for the diagrams of several gates together.
 const STEPS: u64 = 250_000;
 
-/// Whether a gate is true of every valuation: as its diagrams told, or, where they became more than they may, decided part by
-/// part.
+/// Whether a gate is true at every valuation: the answer of its diagrams, or, if these exceeded their bounds, the
+/// decision part by part.
 #[tactic(auto, using(crate::proofs::Deciding::one_gate, crate::proofs::Deciding::one_true, crate::proofs::Deciding::one_false))]
 fn told_or_decided(
     alloc: Global,
@@ -43,12 +43,12 @@ fn told_or_decided(
 pub struct NetDiagrams {
     store: Store,
     built: GateDiagrams,
-    /// Whether they have told of no gate yet.
+    /// Whether they have decided no gate yet.
     is_new: bool,
 }
 
 impl NetDiagrams {
-    /// Those of no gate.
+    /// No diagrams yet.
     fn new(alloc: Global, net: &Net) -> Result<NetDiagrams, Memory>
         ensures { IfOk result (AreDiagramsOf net.now) }
     {
@@ -61,7 +61,7 @@ impl NetDiagrams {
         })
     }
 
-    /// Whether a gate is true of every valuation. `None` where its diagrams become more than they may.
+    /// Whether a gate is true at every valuation. `None` if its diagrams exceed their bounds.
     fn truth_of(&mut self, net: &Net, gate: u64) -> Option<bool>
         requires gate { gate < length net.now.gates }
         requires diagrams { AreDiagramsOf net.now self.old }
@@ -73,7 +73,8 @@ impl NetDiagrams {
         found
     }
 
-    /// The same: where the diagrams of other gates leave too little, by new ones.
+    /// Like `truth_of`, but if the diagrams of other gates have left too few steps or nodes, it tries again with new
+    /// diagrams.
     fn truth_anew(&mut self, alloc: Global, net: &Net, gate: u64) -> Result<Option<bool>, Memory>
         requires gate { gate < length net.now.gates }
         requires diagrams { AreDiagramsOf net.now self.old }
@@ -90,8 +91,8 @@ impl NetDiagrams {
     }
 }
 
-/// For each of some gates whether it is true of every valuation. They share their diagrams, which have the given orders; a
-/// gate at which these become more than they may is decided part by part.
+/// For each of the given gates, whether it is true at every valuation. The gates share their diagrams, which use the
+/// given orders. If the diagrams exceed their bounds at a gate, this gate is decided part by part.
 #[tactic(auto, using(crate::proofs::Mirrors::decided_more))]
 pub fn each_true(
     alloc: Global,

@@ -10,8 +10,8 @@ use nets::Net;
 use std::alloc::Global;
 use y86_base::Memory;
 
-/// How far a pass over gates comes: all are true, or the first that is false is at a place, or it stopped at a place,
-/// where the diagrams became more than they may.
+/// How far a pass over gates gets: all are true, the first false one is at a place, or it stopped at a place, where the
+/// diagrams exceeded their bounds.
 #[derive(Clone, Copy, Debug)]
 pub enum PassResult {
     True,
@@ -19,7 +19,7 @@ pub enum PassResult {
     Stopped(usize),
 }
 
-/// Whether a gate is true of every valuation. `None` where its diagrams became more than they may.
+/// Whether a gate is true at every valuation. `None` if its diagrams exceeded their bounds.
 pub fn always_true(
     store: &mut Store,
     built: &mut GateDiagrams,
@@ -39,7 +39,7 @@ pub fn always_true(
     }
 }
 
-/// A pass over gates, with diagrams of no more than so many steps and nodes.
+/// A pass over gates, with diagrams of at most `steps` steps and `nodes` nodes.
 #[tactic(auto, using(crate::proofs::Deciding::false_decided, crate::proofs::Deciding::true_decided))]
 pub fn run_pass(
     alloc: Global,
@@ -63,7 +63,7 @@ pub fn run_pass(
     Ok(PassResult::True)
 }
 
-/// The same, with the variables in the given order.
+/// Like `run_pass`, with the variables in the given order.
 #[tactic(auto, using(crate::proofs::Mirrors::pass_mirrored))]
 pub fn pass_in_order(
     alloc: Global,

@@ -8,8 +8,8 @@ use nets::{Net, cofactor};
 use std::alloc::Global;
 use y86_base::Memory;
 
-/// Some gates of a net, in a copy whose variables stand in the given order. Where that lacks one of them, they keep
-/// their order.
+/// Some gates of a net, in a copy whose variables are in the given order. If that order lacks one of them, the copy
+/// keeps the net's order.
 #[tactic(auto, using(crate::proofs::Mirrors::part_stands))]
 pub fn reordered(
     alloc: Global,

@@ -10,7 +10,8 @@ use nets::Net;
 use std::alloc::Global;
 use y86_base::Memory;
 
-/// The first gate that is false, by its place, and the first part in which it is: what is found behind all parts.
+/// The place of the first gate that is false, and the first part in which it is false: the result of the search after
+/// all parts. If no gate is false, the place is the number of gates.
 #[derive(Clone, Copy, Debug)]
 pub struct FalseGate {
     pub place: usize,
@@ -24,7 +25,7 @@ pub trait SubproblemPass {
         ensures { IfOk result (IsPass part.now.net part.now.gates) };
 }
 
-/// The pass in which the diagrams may take what they need.
+/// The pass in which the diagrams may use as many steps and nodes as they need.
 #[derive(Clone, Copy, Debug)]
 pub struct UnboundedPass;
 
@@ -34,19 +35,19 @@ impl SubproblemPass for UnboundedPass {
     }
 }
 
-/// The pass in which a part whose diagrams become more than they may is parted again.
+/// The pass in which a part whose diagrams exceed their bounds is split again.
 #[derive(Clone, Copy, Debug)]
 pub struct SplittingPass<'a> {
-    /// The variables in an order for the diagrams of a part.
+    /// The order of the variables for the diagrams of a part.
     pub part: &'a [u32],
-    /// The variables in an order: by the first four the part is parted.
+    /// The order of the variables for a second split: by the first four of them.
     pub again: &'a [u32],
 }
 
-/// How many steps the diagrams of a part may take before it is parted again.
+/// The maximal number of steps for the diagrams of a part before it is split again.
 const PART_STEPS: u64 = 30_000;
 
-/// How it is parted again.
+/// How a part is split again.
 const AGAIN: CaseSplit = CaseSplit { bits: 4, parts: 16 };
 
 impl<'a> SubproblemPass for SplittingPass<'a> {
@@ -74,7 +75,7 @@ fn pass_parts(alloc: Global, net: &Net, gates: &[u64], order: &[u32]) -> Result<
     }
 }
 
-/// Searches one part more, for the gates before the one that is found so far.
+/// Searches another part, for the gates before the false one found so far.
 #[tactic(auto, using(crate::proofs::Searching::search_zero, crate::proofs::Searching::search_none, crate::proofs::Searching::search_some))]
 fn search_part<P: SubproblemPass>(
     alloc: Global,

@@ -9,7 +9,7 @@ use nets::{Net, Replacement, forced, substitute};
 use std::alloc::Global;
 use y86_base::{Items, Memory};
 
-/// By how many first bits the valuations are parted, and into how many parts.
+/// The number of first bits by which the valuations are split, and the number of parts.
 #[derive(Clone, Copy, Debug)]
 pub struct CaseSplit {
     pub bits: u32,
@@ -23,7 +23,7 @@ pub struct Part {
     pub number: u64,
 }
 
-/// The cut of the valuations of so many variables. Where they are fewer than its bits, they aren't parted.
+/// The split for `vars` variables. If there are fewer variables than bits, the valuations aren't split.
 pub fn split_of(cut: CaseSplit, vars: u32) -> CaseSplit
     requires { cut.parts ≡ 2 ^ cut.bits }
     ensures parts { result.parts ≡ 2 ^ result.bits }
@@ -51,7 +51,7 @@ fn bit_of(part: u64, bits: u32, i: u32) -> bool
     rest % 2 == 1
 }
 
-/// What stands in the places of the variables in the copy for a part.
+/// The replacements of the variables in the copy for a part.
 pub fn sources_in(alloc: Global, part: Part, vars: u32) -> Result<Vec<Replacement>, Memory>
     ensures { IfOk result (λ to. AreSourcesIn part.bits part.number vars to.items) }
 {
@@ -76,7 +76,7 @@ pub struct Subproblem {
     pub gates: Items<u64>,
 }
 
-/// The first of some gates, in a copy of their net.
+/// The first `count` of some gates, in a copy of their net.
 pub fn chosen(
     alloc: Global,
     made: &[u64],
@@ -96,7 +96,7 @@ pub fn chosen(
     Ok(Items::of(chosen))
 }
 
-/// The first of some gates, in the copy of their net for a part.
+/// The first `count` of some gates, in the copy of their net for a part.
 #[tactic(auto, using(crate::proofs::Sources::are_sources, crate::proofs::Sources::gates_made))]
 pub fn subproblem_of(
     alloc: Global,
@@ -120,7 +120,7 @@ pub fn subproblem_of(
     })
 }
 
-/// Whether a bit stands in the place of a variable.
+/// Whether a bit replaces some variable.
 fn has_bit(to: &[Replacement]) -> bool {
     for source in to {
         match source {
@@ -131,7 +131,8 @@ fn has_bit(to: &[Replacement]) -> bool {
     false
 }
 
-/// The same gates, with the bits put in that the variables have wherever one of them is false.
+/// The same gates, in a copy in which the variables that have one value wherever one of the gates is false are replaced
+/// by it.
 #[tactic(auto, using(crate::proofs::Forced::gates_inside))]
 fn with_forced(alloc: Global, part: Subproblem) -> Result<Subproblem, Memory>
     requires { AreGatesOfNet part.net part.gates }
@@ -150,7 +151,7 @@ fn with_forced(alloc: Global, part: Subproblem) -> Result<Subproblem, Memory>
     })
 }
 
-/// The first of some gates, in the copy of their net for a part, with the bits put in that they force.
+/// Like `subproblem_of`, with the bits put in that the gates force.
 pub fn forced_subproblem(
     alloc: Global,
     net: &Net,

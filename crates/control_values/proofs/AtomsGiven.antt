@@ -1,4 +1,4 @@
--- The bits of atoms that are apart are the truths that they are given.
+-- If no atom is listed twice, the bits of the atoms are the truths that they give.
 use Rattle.std.proofs.Common.{◌≡◌, ℕ, zero, suc, ◌+◌, Bool, true, false, if◌then◌else◌, List, [], ◌∷◌, get_or, slice_get, Some, refl, sym, ap, ◌∙◌, subst, inl, inr, arith}
 use Rattle.std.proofs.lemmas.Option.{same_Some}
 use Rattle.hcl_types.specs.Lists.{IsApart, IsIn}

@@ -20,7 +20,7 @@ use Rattle.ctl_formula.specs.Controls.{AreControls, control_rule, role_leaf, row
 use Rattle.ctl_formula.proofs.Rows.{rule_local, rule_past, rule_row}
 use Rattle.control_values.specs.Given.{at, given_leaf}
 
--- a given row is the same whatever its term is worth
+-- a given row doesn't depend on its term
 role_given : (field : ℕ → ℕ) (n : ℕ) (class : Class) (r : Role) (x y : Leaf) → is_given r ≡ true → role_leaf field n class r x ≡ role_leaf field n class r y
 role_given field n class (role.Constant k) x y h = refl
 role_given field n class role.State x y h = refl
@@ -51,7 +51,7 @@ module _ (rows : List Row) (terms : List Term) (field : ℕ → ℕ) (α : Assig
         keeps = λ s n m a h. subst (λ z. m < z) (sym (length-set s n a)) h;
       }
 
-  -- one more row of the order
+  -- another row of the order
   pub one_filled : (leaves : List Leaf) (ids items : List ℕ) (i : ℕ) (own : Leaf) → items ≡ ids → i < length ids →
       own ≡ control_rule rows terms field α (get_or items i 0) (at leaves) →
       evaluated_along at slice_set (control_rule rows terms field α) (slice_set leaves (get_or items i 0) own) (drop (i + 1) ids) ≡ evaluated_along at slice_set (control_rule rows terms field α) leaves (drop i ids)
@@ -59,7 +59,7 @@ module _ (rows : List Row) (terms : List Term) (field : ℕ → ℕ) (α : Assig
       ap (λ (x : Leaf). evaluated_along at slice_set (control_rule rows terms field α) (slice_set leaves (get_or items i 0) x) (drop (i + 1) ids)) here
       ∙ ap (λ (ns : List ℕ). evaluated_along at slice_set (control_rule rows terms field α) leaves ns) (ap (λ (ns : List ℕ). get_or ns i 0 ∷ drop (i + 1) ids) same ∙ sym (drop_more ids i 0 inside))
 
--- a fact about each row, and about what lies past the rows
+-- a fact about each row, and about every place past the rows
 pub given_everywhere : (field : ℕ → ℕ) (rows : List Row) (leaves : List Leaf) (end : ℕ) → length rows ≤ end → length leaves ≡ end →
     ((n : ℕ) → n < end → at leaves n ≡ given_leaf field rows n) → (n : ℕ) → at leaves n ≡ given_leaf field rows n
 given_everywhere field rows leaves end h whole inside n = by (nat_lt n end) refl
@@ -70,7 +70,7 @@ given_everywhere field rows leaves end h whole inside n = by (nat_lt n end) refl
         let past : end ≤ n = grind (arith, nat_tests, e) in
         get_or_past leaves n (Number 0) (omega (arith, past, whole)) ∙ ap (λ (o : Option Row). row_leaf field n o (Number 0)) (sym (slice_get_past rows n (omega (arith, past, h))))
 
--- one more row is given
+-- another given row
 pub given_more : (field : ℕ → ℕ) (rows : List Row) (leaves : List Leaf) (id : ℕ) (leaf : Leaf) (more : List Leaf) → length leaves ≡ id → more ≡ leaves ++ leaf ∷ [] →
     leaf ≡ given_leaf field rows id → ((n : ℕ) → n < id → at leaves n ≡ given_leaf field rows n) → (n : ℕ) → n < id + 1 → at more n ≡ given_leaf field rows n
 given_more field rows leaves id leaf more whole is own inside n lt = ap (λ (xs : List Leaf). at xs n) is ∙ by (nat_lt n id) refl

@@ -1,4 +1,4 @@
--- What a valuation gives: the truths of atoms, the numbers of fields; and which case of a definition is taken there.
+-- The truths of atoms and the numbers of fields at a valuation, and the case that a definition takes there.
 use Rattle.std.specs.Prelude.{ℕ, ◌+◌, ◌≤◌, Bool, false, if◌then◌else◌, List, [], ◌∷◌, get_or, slice_get, Option, Some, None}
 use Rattle.std.specs.List.{AllByRecursion}
 use Rattle.hcl_types.specs.declared.term.Term.{Term, out-Term}
@@ -14,7 +14,8 @@ use Rattle.net_fields.specs.declared.field_specs.FieldSpec.{FieldSpec}
 use Rattle.net_fields.specs.FieldSpecs.{decoded, number_among, total}
 use Rattle.ctl_formula.specs.Controls.{row_leaf}
 
--- the bit of an atom, the first of which is a bit's number: that of its place in the list, and false of one that isn't listed
+-- an atom's truth, if the first atom has bit number first: the bit of its place in the list, and false if it isn't
+-- listed
 abbrev pub truth_from : ℕ → List Atom → List Bool → Atom → Bool
 truth_from first [] w atom = false
 truth_from first (a ∷ atoms) w atom = if atom_eq a atom then get_or w first false else truth_from (first + 1) atoms w atom
@@ -27,7 +28,7 @@ assigned atoms first w kind left right = truth_from first atoms w (record { kind
 abbrev pub at : List Leaf → ℕ → Leaf
 at leaves n = get_or leaves n (Number 0)
 
--- the number that the bits give each name that is a field of the table, and 0 to any other
+-- the number that the bits give each name that is a field of the table, and 0 for any other
 abbrev pub field_at : List FieldSpec → List Bool → ℕ → ℕ
 field_at fields w n = number_among fields (decoded fields 0 w) n
 
@@ -36,7 +37,8 @@ abbrev pub taken_from : Assignment → (ℕ → Leaf) → ℕ → List TermBranc
 taken_from α cv k [] = None
 taken_from α cv k (b ∷ bs) = if leaf_holds α (value (leaf_meaning α) cv b.guard) then Some k else taken_from α cv (k + 1) bs
 
--- the case that a definition takes: of a case list the first whose guard is true, counted from 0; no other definition has cases
+-- the case that a definition takes: in a case list, the first whose guard is true, counted from 0; no other definition
+-- has cases
 abbrev pub taken_in : Assignment → (ℕ → Leaf) → Term-F Term TermBranch → Option ℕ
 taken_in α cv (Term-F.Num n) = None
 taken_in α cv (Term-F.Name id) = None
@@ -50,11 +52,11 @@ taken_in α cv (Term-F.Case branches) = taken_from α cv 0 branches
 abbrev pub taken : Assignment → (ℕ → Leaf) → Term → Option ℕ
 taken α cv t = taken_in α cv (out-Term t)
 
--- what row n is where no definition gives it, and 0 elsewhere
+-- the leaf of row n if it isn't defined, and 0 otherwise
 abbrev pub given_leaf : (ℕ → ℕ) → List Row → ℕ → Leaf
 given_leaf field rows n = row_leaf field n (slice_get rows n) (Number 0)
 
--- fields of at most four bits each, and not many
+-- fields of at most 4 bits each, and at most 1000 bits together
 pub record AreNear (fields : List FieldSpec) : Type 0 where
   pub few : AllByRecursion (λ (s : FieldSpec). s.bits ≤ 4) fields
   pub near : total fields ≤ 1000

@@ -51,7 +51,7 @@ pub fn number_at(bits: &[bool], first: usize, count: usize) -> u64
     n
 }
 
-/// The number of the field that a name is, and 0 of one that is no field.
+/// The number of the field with this name, or 0 if it is no field.
 #[tactic(auto, using(crate::proofs::Fields::few_bits, crate::proofs::Fields::near_first, crate::proofs::Fields::number_there, crate::proofs::Fields::number_nowhere))]
 fn field_number(fields: &[FieldSpec], bits: &[bool], id: NameId) -> u64
     requires { AreNear fields.now }
@@ -63,7 +63,7 @@ fn field_number(fields: &[FieldSpec], bits: &[bool], id: NameId) -> u64
     }
 }
 
-/// What a name of the state or the hardware is.
+/// The leaf of a name of the state or the hardware.
 fn leaf_of_field(s: &Situation<'_>, class: Class, id: NameId) -> Leaf
     requires { AreNear s.now.fields.now }
     ensures { result ≡ field_leaf (field_at s.now.fields.now s.now.bits.now) id class }
@@ -76,7 +76,7 @@ fn leaf_of_field(s: &Situation<'_>, class: Class, id: NameId) -> Leaf
     }
 }
 
-/// What a row is whose definition, if it has one, is worth this.
+/// The leaf of a row whose definition, if it has one, has the leaf `told`.
 fn leaf_by_role(s: &Situation<'_>, row: &Row, id: NameId, told: Leaf) -> Leaf
     requires { AreNear s.now.fields.now }
     ensures { result ≡ role_leaf (field_at s.now.fields.now s.now.bits.now) id row.now.class row.now.role told }
@@ -89,7 +89,7 @@ fn leaf_by_role(s: &Situation<'_>, row: &Row, id: NameId, told: Leaf) -> Leaf
     }
 }
 
-/// What the term of a defined row picks.
+/// The leaf that the term of a defined row picks.
 fn told_leaf(s: &Situation<'_>, rows: &[Row], terms: &[Term], id: usize, leaves: &[Leaf]) -> Leaf
     requires near { s.now.first ≤ 1000 }
     requires row { id ≤ length rows.now }
@@ -107,7 +107,7 @@ fn told_leaf(s: &Situation<'_>, rows: &[Row], terms: &[Term], id: usize, leaves:
     }
 }
 
-/// What a row is, where the leaves of the names that it needs are known.
+/// The leaf of a row, given the leaves of the names that it needs.
 #[tactic(auto, unfolding(ctl_formula::specs::Controls::control_rule))]
 fn leaf_of_row(s: &Situation<'_>, rows: &[Row], terms: &[Term], id: NameId, leaves: &[Leaf]) -> Leaf
     requires near { s.now.first ≤ 1000 }
@@ -123,7 +123,7 @@ fn leaf_of_row(s: &Situation<'_>, rows: &[Row], terms: &[Term], id: NameId, leav
     }
 }
 
-/// Puts a leaf behind the others.
+/// Adds a leaf after the others.
 fn push_leaf(leaves: &mut Vec<Leaf>, leaf: Leaf) -> Result<(), Memory>
     ensures { OnOk result (leaves.new.items ≡ leaves.old.items ++ leaf ∷ []) }
 {
@@ -133,7 +133,7 @@ fn push_leaf(leaves: &mut Vec<Leaf>, leaf: Leaf) -> Result<(), Memory>
     }
 }
 
-/// What a row is that no definition gives, and 0 for the others.
+/// The leaf of a row that isn't defined, and 0 for any other.
 fn given_at(s: &Situation<'_>, rows: &[Row], id: usize) -> Leaf
     requires few { length rows.now < 2 ^ 32 }
     requires places { AreNear s.now.fields.now }
@@ -145,7 +145,7 @@ fn given_at(s: &Situation<'_>, rows: &[Row], id: usize) -> Leaf
     }
 }
 
-/// What each row is that no definition gives, and 0 for the others.
+/// The leaf of each row that isn't defined, and 0 for the others.
 fn given_leaves(alloc: Global, s: &Situation<'_>, rows: &[Row]) -> Result<Vec<Leaf>, Memory>
     requires few { length rows.now < 2 ^ 32 }
     requires places { AreNear s.now.fields.now }

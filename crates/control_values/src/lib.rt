@@ -1,4 +1,5 @@
-//! The control values of a design at one valuation, computed: what each signal picks there, and which case its definition takes.
+//! Computes the control values of a design at one valuation: what each signal picks there, and which case its
+//! definition takes.
 #![tactic(auto)]
 
 mod filling;

@@ -1,4 +1,4 @@
-//! Terms at a valuation, where the control values of their names are known.
+//! Terms at a valuation, given the control values of their names.
 ghost use Rattle.std.specs.Prelude.{◌≡◌, ◌≤◌, false, get_or, if◌then◌else◌, map};
 ghost use Rattle.hcl_tree.specs.declared.tree.CmpOp.TheVariants.{Eq};
 ghost use Rattle.hcl_types.specs.Lists.{each, some};
@@ -10,7 +10,8 @@ ghost use Rattle.control_values.specs.Given.{assigned, at, taken, taken_from, tr
 use ctl_atoms::{Atom, Leaf, atom_at, same_atom, same_leaf};
 use hcl_types::{CmpOp, Term, TermBranch, is_below};
 
-/// What a term reads at a valuation: the atoms, whose truths are the bits from `first` on, and the control value of each name.
+/// The input of a term at a valuation: the atoms, whose truths are the bits from `first` on, and the control value of
+/// each name.
 #[derive(Clone, Copy)]
 pub struct Scope<'a> {
     pub atoms: &'a [Atom],
@@ -19,14 +20,14 @@ pub struct Scope<'a> {
     pub leaves: &'a [Leaf],
 }
 
-/// A bit of a valuation; past its end false.
+/// A bit of a valuation; false past its end.
 fn bit_at(bits: &[bool], i: usize) -> bool
     ensures { result ≡ get_or bits.now i false }
 {
     bits.get(i).copied().unwrap_or(false)
 }
 
-/// The truth that the bits give an atom: that of its place in the list, and false of one that isn't listed.
+/// The truth that the bits give an atom: the bit of its place in the list, and false if it isn't listed.
 fn truth_of(atoms: &[Atom], first: usize, bits: &[bool], atom: Atom) -> bool
     requires { first ≤ 1000 }
     ensures { result ≡ truth_from first atoms.now bits.now atom }
@@ -39,7 +40,7 @@ fn truth_of(atoms: &[Atom], first: usize, bits: &[bool], atom: Atom) -> bool
     false
 }
 
-/// Whether `x < y`, where no atom is asked.
+/// Whether `x < y`, if that is decided at once.
 fn is_decided_below(x: Leaf, y: Leaf) -> bool
     ensures { result ≡ decided_lt x y }
 {
@@ -109,7 +110,7 @@ impl<'a> Scope<'a> {
         !self.same(x, Leaf::Number(0))
     }
 
-    /// What a term picks. A name past the end of the list is 0.
+    /// The leaf that a term picks. A name past the end of the list is 0.
     #[cycle(evaluation)]
     pub fn leaf_of(&self, t: &Term) -> Leaf
         requires { self.now.first ≤ 1000 }
@@ -137,7 +138,7 @@ impl<'a> Scope<'a> {
         }
     }
 
-    /// Whether what a term picks isn't 0.
+    /// Whether the leaf that a term picks isn't 0.
     #[cycle(evaluation)]
     fn term_holds(&self, t: &Term) -> bool
         requires { self.now.first ≤ 1000 }
@@ -147,7 +148,7 @@ impl<'a> Scope<'a> {
         self.isnt_zero(x)
     }
 
-    /// Whether a term picks what equals a leaf.
+    /// Whether a term picks a leaf that equals `left`.
     #[cycle(evaluation)]
     fn term_equals(&self, left: Leaf, t: &Term) -> bool
         requires { self.now.first ≤ 1000 }
@@ -214,7 +215,7 @@ impl<'a> Scope<'a> {
     }
 }
 
-/// Whether a signal that picks this leaf holds.
+/// Whether a signal that picks this leaf is true.
 pub fn holds(scope: &Scope<'_>, x: Leaf) -> bool
     requires { scope.now.first ≤ 1000 }
     ensures { result ≡ leaf_holds (assigned scope.now.atoms.now scope.now.first scope.now.bits.now) x }
@@ -222,7 +223,7 @@ pub fn holds(scope: &Scope<'_>, x: Leaf) -> bool
     scope.isnt_zero(x)
 }
 
-/// The case of a case list that is taken, counted from 0: the first whose guard holds.
+/// The case of a case list that is taken, counted from 0: the first whose guard is true.
 fn taken_branch(scope: &Scope<'_>, all: &[TermBranch]) -> Option<usize>
     requires { scope.now.first ≤ 1000 }
     ensures { result ≡ taken_from (assigned scope.now.atoms.now scope.now.first scope.now.bits.now) (at scope.now.leaves.now) 0 all.now }
@@ -235,7 +236,7 @@ fn taken_branch(scope: &Scope<'_>, all: &[TermBranch]) -> Option<usize>
     None
 }
 
-/// The case that a definition takes, counted from 0. `None` where no guard holds, and for a definition without cases.
+/// The case that a definition takes, counted from 0. `None` if no guard is true, and for a definition without cases.
 pub fn taken_case(scope: &Scope<'_>, term: &Term) -> Option<usize>
     requires { scope.now.first ≤ 1000 }
     ensures { result ≡ taken (assigned scope.now.atoms.now scope.now.first scope.now.bits.now) (at scope.now.leaves.now) term.now }

@@ -56,7 +56,7 @@ unfolding added
 added_keeps out [] a h = h
 added_keeps out (x ∷ xs) a h = added_keeps (with_atom out x) xs a (with_keeps out x a h)
 
--- each atom that was asked is listed
+-- each atom of the comparisons is listed
 pub added_lists : (out : List Atom) (xs : List (Option Atom)) → each (is_listed (added out xs)) xs ≡ true
 added_lists out [] = refl
 added_lists out (None ∷ xs) = ap (λ (l : List Atom). each (is_listed l) xs) (added_one out None xs) ∙ added_lists out xs

@@ -1,4 +1,4 @@
--- The list of atoms: each one once, and each that is asked.
+-- The list of atoms has each of them once, and each that a definition needs.
 use Rattle.std.proofs.Common.{◌≡◌, ℕ, Bool, true, false, List, [], ◌∷◌, ◌++◌, map, Option, Some, None, if◌then◌else◌, IsTrue, refl, sym, ap, ◌∙◌, inl, inr, arith}
 use Rattle.std.specs.List.{AllByRecursion}
 use Rattle.std.proofs.lemmas.Bool.{or_parts, and_parts}
@@ -25,11 +25,11 @@ all_listed atoms leaves (t ∷ ts) h =
     let parts = each_split (is_listed atoms) (term_atoms leaves t).asks (atoms_of_all (map (term_atoms leaves) ts)) h in
     (parts.0, all_listed atoms leaves ts parts.1)
 
--- each atom that a definition asks is in the list
+-- each atom of a definition is in the list
 pub listed : (leaves : ℕ → List Leaf) (terms : List Term) → AllByRecursion (λ t. IsTrue (each (is_listed (atoms_of leaves terms)) (term_atoms leaves t).asks)) terms
 listed leaves terms = all_listed (atoms_of leaves terms) leaves terms (added_lists [] (atoms_of_all (map (term_atoms leaves) terms)))
 
--- what the test doesn't find isn't there
+-- an atom that the test doesn't find isn't in the list
 not_in : (xs : List Atom) (a : Atom) → has_atom xs a ≡ false → IsIn a xs → ⊥
 not_in [] a h i = i
 not_in (x ∷ xs) a h (inl e) =
@@ -61,6 +61,6 @@ unfolding added
 added_apart out [] h = h
 added_apart out (x ∷ xs) h = added_apart (with_atom out x) xs (with_apart out x h)
 
--- no atom stands in the list twice
+-- no atom is in the list twice
 pub apart : (leaves : ℕ → List Leaf) (terms : List Term) → IsApart (atoms_of leaves terms)
 apart leaves terms = added_apart [] (atoms_of_all (map (term_atoms leaves) terms)) tt

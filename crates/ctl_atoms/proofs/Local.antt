@@ -1,4 +1,4 @@
--- What a term can pick and asks depends on the leaves of its names alone.
+-- The leaves and atoms of a term depend on the leaves of its names alone.
 use Rattle.std.proofs.Common.{◌≡◌, ℕ, false, List, [], ◌∷◌, ◌++◌, map, ap, subst, refl}
 use Rattle.std.specs.List.{AllByRecursion}
 use Rattle.hcl_types.specs.declared.term.Term.{Term}

@@ -1,4 +1,4 @@
--- What a term can pick and asks, variant by variant.
+-- The leaves and atoms of a term, variant by variant.
 use Rattle.std.proofs.Common.{◌≡◌, ℕ, ◌+◌, true, false, List, [], ◌∷◌, ◌++◌, map, sym, ap, ◌∙◌, nat_eq, if◌then◌else◌}
 use Rattle.hcl_tree.specs.declared.tree.CmpOp.{CmpOp}
 use Rattle.hcl_types.specs.declared.term.TermBranch.{TermBranch}
@@ -38,7 +38,7 @@ module _ (leaves : ℕ → List Leaf) where
   pub plan_branch : (b : TermBranch) → branch_plan leaves b ≡ (term_atoms leaves b.guard, term_atoms leaves b.value)
   plan_branch b = fold-roll-TermBranch TermAtoms (TermAtoms × TermAtoms) (plan_layer leaves) plan_pair (record { guard = b.guard; value = b.value })
 
--- what it asks, where the term is known by an equation
+-- the atoms of a term that an equation gives
 module _ (leaves : ℕ → List Leaf) (t : Term) where
   pub asks_Num : (n : ℕ) → t ≡ Num n → (term_atoms leaves t).asks ≡ []
   asks_Num n e = ap (λ (p : TermAtoms). p.asks) (ap (term_atoms leaves) e ∙ plan_Num leaves n)
@@ -52,13 +52,13 @@ module _ (leaves : ℕ → List Leaf) (t : Term) where
   pub asks_In : (x : Term) (ts : List Term) → t ≡ In x ts → (term_atoms leaves t).asks ≡ (term_atoms leaves x).asks ++ member_atoms (term_atoms leaves x).leaves (map (term_atoms leaves) ts)
   asks_In x ts e = ap (λ (p : TermAtoms). p.asks) (ap (term_atoms leaves) e ∙ plan_In leaves x ts)
 
--- the leaves of a case list once those of a branch are joined whose guard isn't the number 1
+-- the leaves of a case list, after those of a branch whose guard isn't the number 1 are joined
 pub leaves_step : (xs : List Leaf) (b : TermAtoms × TermAtoms) (g v : TermAtoms) (rest : List (TermAtoms × TermAtoms)) → b ≡ (g, v) → g.one ≡ false →
     case_leaves (joined xs v.leaves) rest ≡ case_leaves xs (b ∷ rest)
 leaves_step xs b g v rest e h =
     sym (ap (λ (p : TermAtoms × TermAtoms). case_leaves xs (p ∷ rest)) e ∙ ap (λ o. if o then joined xs v.leaves else case_leaves (joined xs v.leaves) rest) h)
 
--- and those behind a guard that is
+-- and those after a guard that is the number 1
 pub leaves_stop : (xs : List Leaf) (b : TermAtoms × TermAtoms) (g v : TermAtoms) (rest : List (TermAtoms × TermAtoms)) → b ≡ (g, v) → g.one ≡ true →
     joined xs v.leaves ≡ case_leaves xs (b ∷ rest)
 leaves_stop xs b g v rest e h =

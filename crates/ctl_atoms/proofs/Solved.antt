@@ -1,4 +1,4 @@
--- The leaves of names: computed along an order they solve the equations, and the solution is one.
+-- The leaves of names: computed along an order they solve the equations, and there is only one solution.
 use Rattle.std.proofs.Common.{◌≡◌, ℕ, zero, suc, ◌+◌, ◌<◌, Bool, true, false, List, [], ◌∷◌, length, take, drop, get_or, slice_get, slice_set, nat_lt, ◌≤◌, Option, Some, None, refl, sym, ap, ◌∙◌, subst, arith}
 use Rattle.std.proofs.lemmas.Bool.Decides.{nat_tests}
 use Rattle.std.proofs.lemmas.List.{drop_more, get_or_past, get_or-set_same, get_or-set_other, length-set}
@@ -37,12 +37,12 @@ needs_counted k (r ∷ rows) terms (suc n) row e d = by (λ j. needs_counted j r
     by rest true t = rw t (rest (k + 1) ∙ ap (λ j. names (term_at terms j)) (omega arith))
     by rest false t = rw t (rest k)
 
--- what a defined row needs are the names in its term
+-- a defined row needs the names in its term
 pub needs_defined : (rows : List Row) (terms : List Term) (n : ℕ) (row : Row) → slice_get rows n ≡ Some row → is_defined row.role ≡ true →
     needs_of (needs rows terms) n ≡ names (row_term rows terms n)
 needs_defined rows terms n row e d = needs_counted 0 rows terms n row e d ∙ ap (λ j. names (term_at terms j)) (omega arith)
 
--- a row of the table is known where it is given
+-- a row of the table is known exactly if it is given
 pub known_row : (rows : List Row) (n : ℕ) (row : Row) → slice_get rows n ≡ Some row → is_known (known rows) n ≡ is_given row.role
 known_row [] n row e = absurd (grind (arith, e))
 known_row (r ∷ rows) zero row e =
@@ -50,7 +50,7 @@ known_row (r ∷ rows) zero row e =
     ap (λ (z : Row). is_given z.role) same
 known_row (r ∷ rows) (suc n) row e = known_row rows n row e
 
--- what isn't known is a row
+-- a number that isn't known is a row
 pub unknown_inside : (rows : List Row) (n : ℕ) → is_known (known rows) n ≡ false → n < length rows
 unknown_inside [] n e = absurd (grind (arith, e))
 unknown_inside (r ∷ rows) zero e = omega arith
@@ -122,7 +122,7 @@ module _ (rows : List Row) (terms : List Term) where
 pub atoms_one : (rows : List Row) (terms : List Term) (ids : List ℕ) (xs ys : List Atom) → IsOrderOf rows terms ids → AreAtoms rows terms xs → AreAtoms rows terms ys → xs ≡ ys
 atoms_one rows terms ids xs ys o p q = let l = leaves_exist rows terms ids o in p.are (l.0) (l.1) ∙ sym (q.are (l.0) (l.1))
 
--- one more row of the order
+-- another row of the order
 pub one_filled : (rows : List Row) (terms : List Term) (lists : List (List Leaf)) (ids items : List ℕ) (i : ℕ) (own : List Leaf) → items ≡ ids → i < length ids →
     own ≡ leaf_rule rows terms (get_or items i 0) (leaves_at lists) →
     evaluated_along leaves_at slice_set (leaf_rule rows terms) (slice_set lists (get_or items i 0) own) (drop (i + 1) ids) ≡ evaluated_along leaves_at slice_set (leaf_rule rows terms) lists (drop i ids)
@@ -130,7 +130,7 @@ one_filled rows terms lists ids items i own same inside here =
     ap (λ (xs : List Leaf). evaluated_along leaves_at slice_set (leaf_rule rows terms) (slice_set lists (get_or items i 0) xs) (drop (i + 1) ids)) here
     ∙ ap (λ (ns : List ℕ). evaluated_along leaves_at slice_set (leaf_rule rows terms) lists ns) (ap (λ (ns : List ℕ). get_or ns i 0 ∷ drop (i + 1) ids) same ∙ sym (drop_more ids i 0 inside))
 
--- a fact about each place of a list, and about what lies past it
+-- a fact about each place of a list, and about every place past it
 everywhere : (P : ℕ → Type 0) (end : ℕ) → ((n : ℕ) → n < end → P n) → ((n : ℕ) → end ≤ n → P n) → (n : ℕ) → P n
 everywhere P end inside past n = by (nat_lt n end) refl
   where

@@ -1,4 +1,4 @@
--- What some of several terms is.
+-- Laws of the sort of several terms.
 use Rattle.std.proofs.Common.{◌≡◌, false, refl}
 use Rattle.std.proofs.Math.Bool.{or-false, or_assoc}
 use Rattle.ctl_atoms.specs.declared.mixing.InferredSort.{InferredSort}

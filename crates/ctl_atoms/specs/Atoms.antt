@@ -1,4 +1,4 @@
--- The atoms of a design, and why there are none.
+-- The atoms of a design, and why it may have none.
 use Rattle.std.specs.Prelude.{ℕ, ◌≡◌, ◌≤◌, ◌<◌, true, false, if◌then◌else◌, List, [], ◌∷◌, ◌++◌, map, length, Option, Some, None}
 use Rattle.hcl_types.specs.declared.term.Term.{Term}
 use Rattle.hcl_types.specs.declared.table.Row.{Row}
@@ -12,7 +12,7 @@ use Rattle.ctl_atoms.specs.TermAtoms.{atoms_of_all, term_atoms}
 use Rattle.ctl_atoms.specs.Rows.{leaf_rule}
 use Rattle.ctl_atoms.specs.Mixing.{mixes}
 
--- the list with an atom that is asked at its end where it isn't there yet
+-- the list with an atom, if there is one, added at its end if it isn't there yet
 abbrev pub with_atom : List Atom → Option Atom → List Atom
 with_atom out None = out
 with_atom out (Some a) = if has_atom out a then out else out ++ a ∷ []

@@ -24,11 +24,11 @@ kind_eq kind.Eq kind.Eq = true
 abbrev pub atom_eq : Atom → Atom → Bool
 atom_eq a b = kind_eq a.kind b.kind && leaf_eq a.left b.left && leaf_eq a.right b.right
 
--- a truth for each atom, and for each atom that could be
+-- a truth for each possible atom
 abbrev pub Assignment : Type 0
 Assignment = AtomKind → Leaf → Leaf → Bool
 
--- the atom of `x < y`: none of two constants, and none of a leaf with itself
+-- the atom of `x < y`: none for two constants, and none for a leaf with itself
 abbrev pub open_lt : Leaf → Leaf → Option Atom
 open_lt (Number x) (Number y) = None
 open_lt (Number x) (Name y) = Some (record { kind = kind.Lt; left = Number x; right = Name y })
@@ -45,13 +45,13 @@ open_eq (Name x) (Name y) =
     else (if nat_lt x y then Some (record { kind = kind.Eq; left = Name x; right = Name y })
     else Some (record { kind = kind.Eq; left = Name y; right = Name x }))
 
--- the truth of `x < y` where no atom is asked: constants compare as signed words, and no leaf is below itself
+-- the truth of `x < y` if there is no atom: constants compare as signed words, and no leaf is below itself
 abbrev pub decided_lt : Leaf → Leaf → Bool
 decided_lt (Number x) (Number y) = signed_below x y
 decided_lt (Number x) (Name y) = false
 decided_lt (Name x) y = false
 
--- the truth of a comparison: that of its atom, or the one at once
+-- the truth of a comparison: that of its atom, or the one decided at once
 abbrev pub answered : Assignment → Option Atom → Bool → Bool
 answered α None b = b
 answered α (Some a) b = α a.kind a.left a.right
@@ -71,18 +71,18 @@ by_op lt eq neg op.Le x y = neg (lt y x)
 by_op lt eq neg op.Gt x y = lt y x
 by_op lt eq neg op.Ge x y = neg (lt x y)
 
--- the atom that a comparison asks, and its truth
+-- the atom of a comparison, and its truth
 abbrev pub open_atom : CmpOp → Leaf → Leaf → Option Atom
 open_atom = by_op open_lt open_eq (λ a. a)
 
 abbrev pub leaf_cmp : Assignment → CmpOp → Leaf → Leaf → Bool
 leaf_cmp α = by_op (leaf_lt α) (leaf_same α) not
 
--- what isn't 0 holds
+-- a value other than 0 is true
 abbrev pub leaf_holds : Assignment → Leaf → Bool
 leaf_holds α x = not (leaf_same α x (Number 0))
 
--- terms as the leaf or constant that they pick, comparisons by atoms
+-- the meaning of a term is the leaf or constant that it picks, with comparisons decided by atoms
 abbrev pub leaf_meaning : Assignment → Interpretation Leaf
 leaf_meaning α = record {
   num = Number;
@@ -95,11 +95,11 @@ abbrev pub has_atom : List Atom → Atom → Bool
 has_atom [] a = false
 has_atom (b ∷ bs) a = atom_eq b a || has_atom bs a
 
--- what is asked is in the list
+-- the atom, if there is one, is in the list
 abbrev pub is_listed : List Atom → Option Atom → Bool
 is_listed atoms None = true
 is_listed atoms (Some a) = has_atom atoms a
 
--- bits give the atoms, from bit `first` on, the truths of α
+-- the bits from `first` on are the truths that α gives the atoms
 abbrev pub AtomsAre : List Atom → ℕ → List Bool → Assignment → Type 0
 AtomsAre atoms first bits α = (k : ℕ) (a : Atom) → slice_get atoms k ≡ Some a → get_or bits (first + k) false ≡ α a.kind a.left a.right

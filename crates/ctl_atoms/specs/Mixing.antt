@@ -31,7 +31,8 @@ abbrev pub row_sort : Option Row → InferredSort
 row_sort None = truth_sort false
 row_sort (Some row) = record { code = is_code row.class; value = is_value row.class; mixed = false }
 
--- of some terms: the value of one of them can be a Code name's, that of one a Value name's, one of them mixes the two
+-- the sort of several terms together: one of them can be a Code name's value, one a Value name's, one of them mixes the
+-- two
 abbrev pub either : InferredSort → InferredSort → InferredSort
 either s r = record { code = s.code || r.code; value = s.value || r.value; mixed = s.mixed || r.mixed }
 
@@ -39,7 +40,7 @@ abbrev pub any : List InferredSort → InferredSort
 any [] = truth_sort false
 any (s ∷ ss) = either s (any ss)
 
--- they mix: one of them does, or they join the one with the other
+-- several terms mix the two: one of them does, or they join one class with the other
 abbrev pub joins : InferredSort → Bool
 joins s = s.mixed || (s.code && s.value)
 

@@ -20,21 +20,21 @@ abbrev pub codes : List Leaf
 codes = Number 0 ∷ Number 1 ∷ Number 2 ∷ Number 3 ∷ Number 4 ∷ Number 5 ∷ Number 6 ∷ Number 7
     ∷ Number 8 ∷ Number 9 ∷ Number 10 ∷ Number 11 ∷ Number 12 ∷ Number 13 ∷ Number 14 ∷ Number 15 ∷ []
 
--- a Code name of the state or the hardware can be each number of 4 bits, a Value name is itself; truths name no leaves
+-- a Code name of the state or the hardware can be each number of 4 bits, a Value name is itself; truths have no leaves
 abbrev pub field_leaves : Class → ℕ → List Leaf
 field_leaves class.Number n = Name n ∷ []
 field_leaves class.Code n = codes
 field_leaves class.Value n = Name n ∷ []
 field_leaves class.Truth n = []
 
--- a defined name can pick what its term can
+-- the leaves that a defined name can pick: those of its term
 abbrev pub defined_leaves : Class → List Leaf → List Leaf
 defined_leaves class.Number xs = xs
 defined_leaves class.Code xs = xs
 defined_leaves class.Value xs = xs
 defined_leaves class.Truth xs = []
 
--- the leaves of row n, where its term, if it has one, can pick xs
+-- the leaves of row n; xs are those that its term can pick, if it has a term
 abbrev pub leaves_by_role : Class → ℕ → Role → List Leaf → List Leaf
 leaves_by_role class n (role.Constant c) xs = Number c ∷ []
 leaves_by_role class n role.State xs = field_leaves class n
@@ -49,6 +49,6 @@ leaves_of_row (Some row) n xs = leaves_by_role row.class n row.role xs
 abbrev pub leaf_rule : List Row → List Term → ℕ → (ℕ → List Leaf) → List Leaf
 leaf_rule rows terms n leaves = leaves_of_row (slice_get rows n) n (term_atoms leaves (row_term rows terms n)).leaves
 
--- a list of leaves for each name, none past its end
+-- a list of leaves for each name, and none past the end of the lists
 abbrev pub leaves_at : List (List Leaf) → ℕ → List Leaf
 leaves_at lists n = get_or lists n []

@@ -1,4 +1,4 @@
--- The leaves that a term can pick, and the atoms that its comparisons ask, where each name can pick some leaves.
+-- The leaves that a term can pick, and the atoms of its comparisons, given the leaves that each name can pick.
 use Rattle.std.specs.Prelude.{ℕ, Bool, false, ◌||◌, if◌then◌else◌, List, [], ◌∷◌, ◌++◌, map, nat_eq, Option}
 use Rattle.hcl_tree.specs.declared.tree.CmpOp.{CmpOp}
 use Rattle.hcl_tree.specs.declared.tree.CmpOp.TheVariants as op
@@ -15,7 +15,7 @@ abbrev pub has_leaf : List Leaf → Leaf → Bool
 has_leaf [] x = false
 has_leaf (y ∷ ys) x = leaf_eq y x || has_leaf ys x
 
--- the list with a leaf at its end where it isn't there yet
+-- the list with a leaf added at its end if it isn't there yet
 abbrev pub once : List Leaf → Leaf → List Leaf
 once xs x = if has_leaf xs x then xs else xs ++ x ∷ []
 
@@ -23,13 +23,13 @@ abbrev pub joined : List Leaf → List Leaf → List Leaf
 joined xs [] = xs
 joined xs (y ∷ ys) = joined (once xs y) ys
 
--- what the comparisons of each left leaf with each right leaf ask
+-- the atoms of the comparisons of each left leaf with each right leaf
 abbrev pub pair_atoms : CmpOp → List Leaf → List Leaf → List (Option Atom)
 pair_atoms o [] ys = []
 pair_atoms o (x ∷ xs) ys = map (open_atom o x) ys ++ pair_atoms o xs ys
 
--- Of a term: whether it is the number 1, the leaves that it can pick (each where it comes first), and what its
--- comparisons ask, from left to right and the inner ones before the outer.
+-- For a term: whether it is the number 1, the leaves that it can pick (in order of first appearance), and the atoms of
+-- its comparisons, from left to right and the inner ones before the outer.
 pub record TermAtoms : Type 0 where
   pub one : Bool
   pub leaves : List Leaf
@@ -48,12 +48,12 @@ abbrev pub branch_atoms : List (TermAtoms × TermAtoms) → List (Option Atom)
 branch_atoms [] = []
 branch_atoms (b ∷ bs) = (b.0.asks ++ b.1.asks) ++ branch_atoms bs
 
--- the leaves of the branches up to a guard that is the number 1; behind the last branch the number 0
+-- the leaves of the branches up to a guard that is the number 1; after the last branch the number 0
 abbrev pub case_leaves : List Leaf → List (TermAtoms × TermAtoms) → List Leaf
 case_leaves xs [] = once xs (Number 0)
 case_leaves xs (b ∷ bs) = if b.0.one then joined xs b.1.leaves else case_leaves (joined xs b.1.leaves) bs
 
--- a truth names no leaves
+-- a truth has no leaves
 abbrev pub truth_plan : List (Option Atom) → TermAtoms
 truth_plan asks = record { one = false; leaves = []; asks = asks }
 

@@ -1,4 +1,4 @@
-//! Why a design has no control values.
+//! The errors of the static side of control values.
 use hcl_types::NameId;
 use thiserror::Error;
 
@@ -9,10 +9,10 @@ pub enum CtlFault {
     /// comparison, among the members of an `in`, among the values of a case list, or by a value of the other class.
     #[error("Mixed")]
     Mixed(NameId),
-    /// The definitions ask more than 64 different comparisons of leaves.
+    /// The definitions have more than 64 different open comparisons of leaves.
     #[error("AtomsOver64")]
     AtomsOver64,
-    /// An allocation was refused.
+    /// Memory ran out.
     #[error("Memory")]
     Memory,
 }

@@ -4,7 +4,7 @@ ghost use Rattle.ctl_atoms.specs.Leaves.{open_atom, open_eq, open_lt, atom_eq, h
 
 use hcl_types::{CmpOp, NameId};
 
-/// What a word can be where comparisons are left open: a Value name of the state or the hardware, or a constant.
+/// The value of a word while comparisons are left open: a Value name of the state or the hardware, or a constant.
 #[derive(Clone, Copy, Debug, PartialEq, Eq)]
 pub enum Leaf {
     /// The value of a row of the table.
@@ -13,7 +13,7 @@ pub enum Leaf {
     Number(u64),
 }
 
-/// What an atom compares by.
+/// The comparison of an atom.
 #[derive(Clone, Copy, Debug, PartialEq, Eq)]
 pub enum AtomKind {
     /// `left < right`, as signed words.
@@ -68,7 +68,7 @@ pub fn same_atom(a: Atom, b: Atom) -> bool
     same_kind(a.kind, b.kind) && same_leaf(a.left, b.left) && same_leaf(a.right, b.right)
 }
 
-/// The place of an atom in a list.
+/// The place of an atom in a list, if it is there.
 #[tactic(auto, using(crate::proofs::Same::atom_eq_true))]
 pub fn position(atoms: &[Atom], atom: Atom) -> Option<usize>
     ensures { MatchOption result (has_atom atoms.now atom ≡ false) (λ k. slice_get atoms.now k ≡ Some atom) }
@@ -88,7 +88,7 @@ fn asks(kind: AtomKind, left: Leaf, right: Leaf) -> Option<Atom>
     Some(Atom { kind, left, right })
 }
 
-/// The atom that `x < y` asks.
+/// The atom of `x < y`, if the comparison isn't decided at once.
 fn ask_lt(x: Leaf, y: Leaf) -> Option<Atom>
     ensures { result ≡ open_lt x y }
 {
@@ -110,7 +110,7 @@ fn ask_lt(x: Leaf, y: Leaf) -> Option<Atom>
     }
 }
 
-/// The atom that `x == y` asks.
+/// The atom of `x == y`, if the comparison isn't decided at once.
 fn ask_eq(x: Leaf, y: Leaf) -> Option<Atom>
     ensures { result ≡ open_eq x y }
 {
@@ -134,7 +134,7 @@ fn ask_eq(x: Leaf, y: Leaf) -> Option<Atom>
     }
 }
 
-/// The atom that a comparison of two leaves asks, where it isn't decided at once.
+/// The atom of a comparison of two leaves, if it isn't decided at once.
 pub fn atom_at(op: CmpOp, x: Leaf, y: Leaf) -> Option<Atom>
     ensures { result ≡ open_atom op x y }
 {

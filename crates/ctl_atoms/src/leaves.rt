@@ -10,7 +10,6 @@ use hcl_types::{NameId, Term, TermBranch};
 use std::alloc::{AllocError, Global};
 use y86_base::Items;
 
-/// Whether a leaf is in the list.
 fn has_leaf(leaves: &[Leaf], leaf: Leaf) -> bool
     ensures { result ≡ plans.has_leaf leaves.now leaf }
 {
@@ -22,7 +21,7 @@ fn has_leaf(leaves: &[Leaf], leaf: Leaf) -> bool
     false
 }
 
-/// Puts a leaf at the end of the list, where it isn't there yet.
+/// Adds a leaf at the end of the list, if it isn't there yet.
 fn put_leaf(out: &mut Vec<Leaf>, leaf: Leaf) -> Result<(), AllocError>
     ensures { OnOk result (out.new.items ≡ once out.old.items leaf) }
 {
@@ -34,7 +33,7 @@ fn put_leaf(out: &mut Vec<Leaf>, leaf: Leaf) -> Result<(), AllocError>
     }
 }
 
-/// Puts each leaf.
+/// Adds each leaf that isn't there yet.
 fn put_leaves(out: &mut Vec<Leaf>, leaves: &[Leaf]) -> Result<(), AllocError>
     ensures { OnOk result (out.new.items ≡ joined out.old.items leaves.now) }
 {
@@ -73,7 +72,7 @@ pub fn is_one(t: &Term) -> bool
     }
 }
 
-/// The leaves that a term can pick, each once, where it comes first. `lists`: those of each name.
+/// The leaves that a term can pick, each once, in order of first appearance. `lists` has those of each name.
 #[cycle(leaves)]
 pub fn term_leaves(alloc: Global, lists: &[Items<Leaf>], t: &Term) -> Result<Vec<Leaf>, AllocError>
     ensures { IfOk result (λ leaves. leaves.items ≡ (term_atoms (leaves_at lists.now) t.now).leaves) }
@@ -94,7 +93,8 @@ pub fn term_leaves(alloc: Global, lists: &[Items<Leaf>], t: &Term) -> Result<Vec
     }
 }
 
-/// The leaves of a case list: those of its branches up to a guard that is the number 1, and else the number 0 last.
+/// The leaves of a case list: those of its branches up to a guard that is the number 1. If there is no such guard, the
+/// number 0 comes last.
 #[cycle(leaves)]
 fn case_leaves(
     alloc: Global,

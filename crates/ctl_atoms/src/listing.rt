@@ -14,7 +14,7 @@ use crate::rows::leaves_by_name;
 use hcl_types::{Design, Order, Table};
 use std::alloc::{AllocError, Global};
 
-/// The atoms of the definitions, however many.
+/// The atoms of the definitions, without the limit of 64.
 fn all_atoms(alloc: Global, d: &Design, t: &Table, o: &Order) -> Result<Vec<Atom>, AllocError>
     requires sound { IsSound t.now.rows }
     requires ordered { IsOrderOf t.now.rows d.now.terms o.now.ids }
@@ -26,11 +26,11 @@ fn all_atoms(alloc: Global, d: &Design, t: &Table, o: &Order) -> Result<Vec<Atom
     Ok(out)
 }
 
-/// The atoms of a design in order of first appearance: by definitions in table order, in each from left to right,
-/// the atoms inside an operand before those of its comparison, and these by the leaf on the left, then the leaf on
-/// the right. Comparisons that no value depends on count too.
+/// The atoms of a design in order of first appearance: the definitions in table order, each from left to right, the
+/// atoms inside an operand before those of its comparison, and these by the leaf on the left, then the leaf on the
+/// right. Comparisons on which no value depends count too.
 ///
-/// Errors: `Mixed` of the first definition, in table order, that mixes Code with Value; where none does,
+/// Errors: `Mixed` of the first definition, in table order, that mixes Code with Value; if there is none,
 /// `AtomsOver64`; `Memory`.
 pub fn atoms(alloc: Global, d: &Design, t: &Table, o: &Order) -> Result<Vec<Atom>, CtlFault>
     requires sound { IsSound t.now.rows }

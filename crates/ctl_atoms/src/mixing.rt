@@ -8,7 +8,7 @@ ghost use Rattle.ctl_atoms.specs.Rows.{row_term};
 use crate::rows::definitions_before;
 use hcl_types::{Class, NameId, Row, Term, TermBranch, is_defined};
 
-/// What the value of a term can be, and whether the term mixes the two.
+/// The classes of values that a term can have, and whether the term mixes them.
 #[derive(Clone, Copy, Debug)]
 pub struct InferredSort {
     /// It can be a Code name's.
@@ -80,7 +80,7 @@ fn sort_of_name(rows: &[Row], id: NameId) -> InferredSort
     }
 }
 
-/// What the value of a term can be, and whether the term mixes Code with Value.
+/// The classes of values that a term can have, and whether the term mixes Code with Value.
 #[cycle(sorting)]
 #[tactic(auto, using(crate::proofs::Sorts::either_assoc, crate::proofs::Sorts::either_none))]
 fn sort_of(rows: &[Row], t: &Term) -> InferredSort
@@ -159,7 +159,7 @@ fn sort_of_values(rows: &[Row], all: &[TermBranch]) -> InferredSort
     out
 }
 
-/// What the value of a defined row can be.
+/// The classes of values that a defined row can have.
 fn sort_of_definition(rows: &[Row], terms: &[Term], id: usize) -> InferredSort
     requires { id < length rows.now }
     ensures { result ≡ sort rows.now (row_term rows.now terms.now id) }

@@ -1,4 +1,4 @@
-//! The atoms that a term asks.
+//! The atoms of a term: the comparisons that it leaves open.
 ghost use Rattle.std.specs.Prelude.{◌≡◌, OnOk, map};
 ghost use Rattle.ctl_atoms.specs.Leaves.{open_atom};
 ghost use Rattle.ctl_atoms.specs.Leaves as leaves;
@@ -12,7 +12,6 @@ use hcl_types::{CmpOp, Term, TermBranch};
 use std::alloc::{AllocError, Global};
 use y86_base::Items;
 
-/// Whether an atom is in the list.
 fn has_atom(atoms: &[Atom], atom: Atom) -> bool
     ensures { result ≡ leaves.has_atom atoms.now atom }
 {
@@ -24,7 +23,7 @@ fn has_atom(atoms: &[Atom], atom: Atom) -> bool
     false
 }
 
-/// Puts an atom that is asked at the end of the list, where it isn't there yet.
+/// Adds an atom, if there is one, at the end of the list, if it isn't there yet.
 fn put_atom(out: &mut Vec<Atom>, atom: Option<Atom>) -> Result<(), AllocError>
     ensures { OnOk result (out.new.items ≡ with_atom out.old.items atom) }
 {
@@ -41,7 +40,7 @@ fn put_atom(out: &mut Vec<Atom>, atom: Option<Atom>) -> Result<(), AllocError>
     }
 }
 
-/// Puts what the comparisons of one left leaf ask.
+/// Adds the atoms of the comparisons of one left leaf.
 fn put_row(out: &mut Vec<Atom>, op: CmpOp, left: Leaf, rights: &[Leaf]) -> Result<(), AllocError>
     ensures { OnOk result (out.new.items ≡ added out.old.items (map (open_atom op left) rights.now)) }
 {
@@ -54,7 +53,7 @@ fn put_row(out: &mut Vec<Atom>, op: CmpOp, left: Leaf, rights: &[Leaf]) -> Resul
     Ok(())
 }
 
-/// Puts what the comparisons of each left leaf with each right leaf ask.
+/// Adds the atoms of the comparisons of each left leaf with each right leaf.
 fn put_pairs(
     out: &mut Vec<Atom>,
     op: CmpOp,
@@ -72,7 +71,7 @@ fn put_pairs(
     Ok(())
 }
 
-/// Puts the atoms that a term asks. `lists`: the leaves of each name.
+/// Adds the atoms of a term. `lists` has the leaves of each name.
 #[cycle(asking)]
 #[tactic(auto, using(crate::proofs::Added::added_append, crate::proofs::Added::added_nil))]
 fn put_asked(
@@ -107,7 +106,7 @@ fn put_asked(
     }
 }
 
-/// Puts the atoms that each term asks.
+/// Adds the atoms of each term.
 #[cycle(asking)]
 pub fn put_open_atoms(
     alloc: Global,
@@ -123,7 +122,7 @@ pub fn put_open_atoms(
     Ok(())
 }
 
-/// Puts the atoms that each member of an `in` asks, and those of its comparison with the left side.
+/// Adds the atoms of each member of an `in`, and those of its comparison with the left side.
 #[cycle(asking)]
 fn put_members_asked(
     alloc: Global,
@@ -142,7 +141,7 @@ fn put_members_asked(
     Ok(())
 }
 
-/// Puts the atoms that each branch asks.
+/// Adds the atoms of each branch.
 #[cycle(asking)]
 fn put_branches_asked(
     alloc: Global,

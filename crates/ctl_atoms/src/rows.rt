@@ -12,7 +12,7 @@ use hcl_types::{Class, Design, NameId, Order, Role, Row, Table, Term, is_defined
 use std::alloc::{AllocError, Global};
 use y86_base::Items;
 
-/// How many of the rows before this one are defined: the place of its term in a design, where it is defined itself.
+/// The number of defined rows before this one: the place of its term in a design, if it is defined itself.
 pub fn definitions_before(rows: &[Row], id: usize) -> usize
     requires { id ≤ length rows.now }
     ensures { result ≡ length (defined (take id rows.now)) }
@@ -71,7 +71,7 @@ fn leaves_of_field(alloc: Global, class: Class, id: NameId) -> Result<Vec<Leaf>,
     }
 }
 
-/// The leaves of a row that isn't defined, none of one that is.
+/// The leaves of a row that isn't defined; none for one that is.
 fn leaves_of_given(alloc: Global, row: &Row, id: NameId) -> Result<Vec<Leaf>, AllocError>
     ensures { IfOk result (λ out. out.items ≡ leaves_by_role row.now.class id row.now.role []) }
 {
@@ -83,7 +83,7 @@ fn leaves_of_given(alloc: Global, row: &Row, id: NameId) -> Result<Vec<Leaf>, Al
     }
 }
 
-/// The leaves of a row whose term can pick these.
+/// The leaves of a row whose term can pick those in `own`.
 fn leaves_of_class(alloc: Global, class: Class, own: Vec<Leaf>) -> Vec<Leaf>
     ensures { result.items ≡ defined_leaves class own.items }
 {
@@ -112,7 +112,7 @@ fn leaves_of_term(
     }
 }
 
-/// The leaves of a row, where `lists` has those of each name that it needs.
+/// The leaves of a row, if `lists` has those of each name that it needs.
 fn leaves_of_row(
     alloc: Global,
     rows: &[Row],
@@ -135,7 +135,7 @@ fn leaves_of_row(
     }
 }
 
-/// The leaves of each row that isn't defined, and none of those that are.
+/// The leaves of each row that isn't defined, and none for those that are.
 fn given_lists(alloc: Global, rows: &[Row]) -> Result<Vec<Items<Leaf>>, AllocError>
     requires { length rows.now < 2 ^ 32 }
     ensures whole { IfOk result (λ lists. length lists.items ≡ length rows.now) }
@@ -149,8 +149,8 @@ fn given_lists(alloc: Global, rows: &[Row]) -> Result<Vec<Items<Leaf>>, AllocErr
     Ok(lists)
 }
 
-/// For each row the leaves that its name can pick, each once, where it comes first: those of a Code name of the
-/// state or the hardware are the numbers of 4 bits, those of a defined name the leaves of its term.
+/// For each row, the leaves that its name can pick, each once, in order of first appearance: those of a Code name of
+/// the state or the hardware are the numbers of 4 bits, those of a defined name the leaves of its term.
 pub fn leaves_by_name(
     alloc: Global,
     d: &Design,

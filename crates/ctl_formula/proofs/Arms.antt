@@ -37,11 +37,11 @@ and_end F a whole xs i h t e = sym (and-true a) ∙ (ap (λ b. a && b) (sym (at_
 pub or_end : {A : Type 0} (F : List A → Bool) (a whole : Bool) (xs : List A) (i : ℕ) → length xs ≤ i → F [] ≡ false → a || F (drop i xs) ≡ whole → a ≡ whole
 or_end F a whole xs i h t e = sym (or-false a) ∙ (ap (λ b. a || b) (sym (at_drop_all F xs i h ∙ t)) ∙ e)
 
--- at the end of a case list the number 0 is picked where no branch was
+-- at the end of a case list the number 0 is picked if no branch was taken
 pub case_end : (t o k t' w : Bool) → t' ≡ t || (k && o) → t || (o && k) ≡ w → t' ≡ w
 case_end t o k t' w p q = p ∙ (ap (λ b. t || b) (and_comm k o) ∙ q)
 
--- behind a guard that holds nothing is open
+-- after a guard that is true, no further branch is taken
 pub case_shut : (t o k w : Bool) → o ≡ false → t || (o && k) ≡ w → t ≡ w
 case_shut t o k w p q = sym (or-false t) ∙ (ap (λ b. t || (b && k)) (sym p) ∙ q)
 

@@ -40,7 +40,7 @@ step true true t fp false rest a b e = ap (λ x. x || rest) (b refl) ∙ (e ∙ 
     no true = refl
     no false = refl
 
--- a test of the leaf whose gate is true, where no leaf but x has a true gate
+-- a test of the leaf whose gate is true, if only x has a true gate
 tested : (tr : ℕ → Bool) (f : Leaf → Bool) (x : Leaf) (ps : List Pick) → ((y : Leaf) → leaf_taken tr ps y ≡ true → x ≡ y)
     → some (λ (p : Pick). tr p.gate && f p.leaf) ps ≡ leaf_taken tr ps x && f x
 tested tr f x [] h = refl

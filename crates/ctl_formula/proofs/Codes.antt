@@ -11,7 +11,7 @@ use Rattle.ctl_formula.specs.declared.controls.Pick.{Pick}
 use Rattle.ctl_formula.specs.Translatable.{leaves_of}
 use Rattle.ctl_formula.proofs.Taken.{leaves_push}
 
--- so many numbers from one on
+-- n numbers as leaves, from k on
 abbrev pub numbers : ℕ → ℕ → List Leaf
 numbers k zero = []
 numbers k (suc n) = Number k ∷ numbers (k + 1) n
@@ -33,7 +33,7 @@ leaves_next ps q k m e h =
     ∙ (append_assoc (leaves_of ps) (q.leaf ∷ []) (numbers (k + 1) (m - (k + 1)))
     ∙ (ap (λ (x : Leaf). leaves_of ps ++ (x ∷ numbers (k + 1) (m - (k + 1)))) e ∙ ap (λ (xs : List Leaf). leaves_of ps ++ xs) (sym (numbers_next k m h))))
 
--- one number more
+-- the next number
 pub below_next : (k s : ℕ) (y : Leaf) → (below k y && leaf_eq (Number s) y) || (leaf_eq (Number k) y && (s == k)) ≡ below (k + 1) y && leaf_eq (Number s) y
 below_next k s (Name x) = refl
 below_next k s (Number n) = grind (arith, nat_tests)

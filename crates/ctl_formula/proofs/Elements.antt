@@ -1,4 +1,4 @@
--- Elements of lists behind a push and a write, and rows by their places.
+-- Elements of lists after a push and a write, and rows by their places.
 use Rattle.std.proofs.Common.{◌≡◌, ◌⊎◌, ℕ, zero, suc, ◌+◌, ◌<◌, Bool, true, false, cond, List, [], ◌∷◌, ◌++◌, length, take, Option, Some, slice_get, IsTrue, refl, sym, ap, ◌∙◌, subst, arith, inl, inr}
 use Rattle.std.proofs.Math.ListN.{set}
 use Rattle.std.proofs.lemmas.Option.{slice_get_within, same_Some}
@@ -28,7 +28,7 @@ set_case {A} (z ∷ xs) (suc k) y (suc n) x h = next (set_case xs k y n x h)
     next (inl p) = inl (ap suc p.0, p.1)
     next (inr p) = inr p
 
--- a test that the written element passes still passes where it did
+-- a test that the written element passes is still passed where it was
 pub set_passes : {A : Type 0} (test : Option A → Bool) (xs : List A) (k : ℕ) (y : A) (n : ℕ) → IsTrue (test (Some y)) → IsTrue (test (slice_get xs n)) → IsTrue (test (slice_get (set xs k y) n))
 set_passes test [] k y n t h = h
 set_passes test (z ∷ xs) zero y zero t h = t
@@ -41,7 +41,7 @@ set_here [] k y h = absurd (omega arith)
 set_here (z ∷ xs) zero y h = refl
 set_here (z ∷ xs) (suc k) y h = set_here xs k y (omega arith)
 
--- row n, where it is defined, is the defined row of the place that counts those before it
+-- row n, if it is defined, is the defined row whose place is the number of defined rows before it
 pub defined_at : (rows : List Row) (n : ℕ) (row : Row) → slice_get rows n ≡ Some row → is_defined row.role ≡ true → slice_get (defined rows) (length (defined (take n rows))) ≡ Some row
 defined_at [] n row e d = absurd (grind (arith, e))
 defined_at (r ∷ rows) zero row e d =

@@ -1,4 +1,4 @@
--- What gates tell stays as the net grows.
+-- What gates say stays true as the net grows.
 use Rattle.std.proofs.Common.{◌≡◌, ℕ, ◌≤◌, Bool, ◌&&◌, ◌||◌, List, [], ◌∷◌, length, refl, ap, ◌∙◌, arith}
 use Rattle.nets.specs.Nets.{Gates, ExtendsNet, truth}
 use Rattle.ctl_atoms.specs.declared.leaf.Leaf.{Leaf}

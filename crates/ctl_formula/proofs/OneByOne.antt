@@ -43,7 +43,7 @@ use Rattle.ctl_formula.proofs.Readied.{Readied, Stands, readied}
 use Rattle.ctl_formula.proofs.Elements.{push_case, set_case, defined_at, defined_below, each_at}
 use Rattle.ctl_formula.proofs.Rows.{given_undefined, rule_row, defined_leaf}
 
--- ---- given rows, one more
+-- ---- another given row
 
 pub given_none : (rows : List Row) (places : List Place) (net : Gates) → IsInputEncoding rows places 0 net []
 given_none rows places net = record {
@@ -152,7 +152,7 @@ module _ (rows : List Row) (terms : List Term) (places : List Place) (asks : Lis
   pub filling_open : (net : Gates) (es : List Entry) → first + length asks ≤ net.vars → IsPartialEncoding rows terms places asks first net es → HasScope net es asks first
   filling_open net es vars h = record { vars = vars; entries = h.within }
 
-  -- ---- one name more
+  -- ---- another name
 
   module _ (leaves : ℕ → List Leaf) (fixed : IsSolution (leaf_rule rows terms) leaves) (net : Gates) (es : List Entry) (h : IsPartialEncoding rows terms places asks first net es) where
     stands_at : (n : ℕ) → n < length rows → IsTrue (is_filled (slice_get es n)) → Stands es asks rows leaves n
@@ -173,7 +173,7 @@ module _ (rows : List Row) (terms : List Term) (places : List Place) (asks : Lis
     all_stand [] l f = tt
     all_stand (n ∷ ids) l f = (stands_at n l.0 f.0, all_stand ids l.1 f.1)
 
-    -- the term of a defined row whose needs have their gates can be translated
+    -- the term of a defined row can be translated, if the names that it needs have their gates
     pub readied_at : IsBound rows terms → asks ≡ atoms_of leaves terms → (n : ℕ) (row : Row) → slice_get rows n ≡ Some row → is_defined row.role ≡ true →
         AllByRecursion (λ m. m < length rows → IsTrue (is_filled (slice_get es m))) (names (row_term rows terms n)) → Readied es asks rows leaves (row_term rows terms n)
     readied_at bound same n row r d filled =
@@ -247,7 +247,7 @@ module _ (rows : List Row) (terms : List Term) (places : List Place) (asks : Lis
           let at_n : EntryEncodes (at b w) α e (cv n) = subst (λ m. EntryEncodes (at b w) α e (cv m)) (sym p.0) here in
           subst (λ (z : Entry). EntryEncodes (at b w) α z (cv n)) (sym p.1) at_n
 
-  -- ---- what is needed has its gates
+  -- ---- the rows that are needed have their gates
 
   pub needs_filled : (es : List Entry) (done ids : List ℕ) → ((n : ℕ) (row : Row) → slice_get rows n ≡ Some row → is_defined row.role ≡ false → IsTrue (is_filled (slice_get es n))) →
       AllByRecursion (λ n. IsTrue (is_filled (slice_get es n))) done → AllByRecursion (λ m. (is_known (known rows) m ≡ true) ⊎ IsIn m done) ids → AllByRecursion (λ m. m < length rows → IsTrue (is_filled (slice_get es m))) ids
@@ -320,7 +320,7 @@ module _ (rows : List Row) (terms : List Term) (places : List Place) (asks : Lis
   pub along_inside : (ids : List ℕ) (i : ℕ) → i < length ids → IsOrderOf rows terms ids → get_or ids i 0 < length rows
   along_inside ids i lt o = unknown_inside rows (get_or ids i 0) (each_at (λ n. is_known (known rows) n ≡ false) ids i (get_or ids i 0) (slice_get-get_or ids i 0 lt) o.unknown)
 
-  -- a row of the order has its gates once it was put
+  -- a row of the order has its gates once they are made
   pub put_filled : (es es' : List Entry) (k : ℕ) → k < length rows → ((n : ℕ) (row : Row) → slice_get rows n ≡ Some row → is_defined row.role ≡ false → IsTrue (is_filled (slice_get es n))) →
       ((row : Row) → slice_get rows k ≡ Some row → is_defined row.role ≡ true → IsTrue (is_filled (slice_get es' k))) →
       ((n : ℕ) → IsTrue (is_filled (slice_get es n)) → IsTrue (is_filled (slice_get es' n))) → IsTrue (is_filled (slice_get es' k))
@@ -330,7 +330,7 @@ module _ (rows : List Row) (terms : List Term) (places : List Place) (asks : Lis
       by row r true d = filled row r d
       by row r false d = kept k (given k row r d)
 
-  -- ---- what all entries tell
+  -- ---- what all entries say
 
   pub covers_all : (leaves : ℕ → List Leaf) → IsSolution (leaf_rule rows terms) leaves → (net : Gates) (es : List Entry) → IsEncoding rows terms places asks first net es → Covers rows es
   covers_all leaves fixed net es told = record {
@@ -381,7 +381,7 @@ tells_all net es w α cv h = record { truths_are = λ n has. gate n (slice_get e
     pick n test (Some (Truth g)) q t = absurd (grind (arith, t))
     pick n test (Some (Picks ps)) q t = chosen (at net w) test (cv n) ps (h n (Picks ps) q)
 
--- the atoms of a design are one list
+-- a design has only one list of atoms
 pub one_list : (rows : List Row) (terms : List Term) (ids : List ℕ) → IsOrderOf rows terms ids → (xs ys : List Atom) → AreAtoms rows terms xs → AreAtoms rows terms ys → xs ≡ ys
 one_list rows terms ids o xs ys x y =
     let found = leaves_exist rows terms ids o in

@@ -1,4 +1,4 @@
--- What is read stays as the net grows.
+-- The conditions on a translation's input stay true as the net grows.
 use Rattle.std.proofs.Common.{Bool, List, ℕ, ◌≤◌, length, arith, ◌∙◌}
 use Rattle.ctl_atoms.specs.declared.leaf.Leaf.{Leaf}
 use Rattle.ctl_formula.specs.declared.controls.Entry.{Entry}

@@ -32,7 +32,7 @@ placed_at places k (r ∷ rows) (suc n) row e h f b =
     subst (λ i. IsTrue (is_some (place_of places i))) (let q : (k + 1) + n ≡ k + suc n = omega arith in q)
     (placed_at places (k + 1) rows n row e (and_parts (not (is_field r.role && has_bits r.class) || is_some (place_of places k)) (are_placed places (k + 1) rows) h).1 f b)
 
--- the place of a field with bits, and what holds of all places holds of it
+-- the place of a field with bits, with a property that all places have
 pub field_place : (P : Place → Type 0) (places : List Place) (k : ℕ) (rows : List Row) (n : ℕ) (row : Row) → slice_get rows n ≡ Some row → IsTrue (are_placed places k rows) → is_field row.role ≡ true → has_bits row.class ≡ true →
     AllByRecursion P places → (p : Place) × P p × (p.name ≡ k + n)
 field_place P places k rows n row e h f b all = found (place_of places (k + n)) (placed_at places k rows n row e h f b) refl

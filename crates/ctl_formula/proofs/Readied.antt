@@ -1,5 +1,5 @@
--- Where each name of a term has its entry and what its comparisons ask is listed, the term can be translated, and its picks have
--- the leaves of its plan.
+-- If each name of a term has its entry and the atoms of its comparisons are listed, the term can be translated, and its
+-- picks have the leaves of its plan.
 use Rattle.std.proofs.Common.{rules, ◌≡◌, ℕ, Bool, true, false, ◌&&◌, List, [], ◌∷◌, ◌++◌, map, nat_eq, nat_lt, Option, slice_get, if◌then◌else◌, IsTrue, refl, sym, ap, ◌∙◌, subst}
 use Rattle.std.specs.List.{AllByRecursion}
 use Rattle.std.proofs.lemmas.Bool.{and_parts}
@@ -68,7 +68,7 @@ module _ (es : List Entry) (atoms : List Atom) (rows : List Row) (own : ℕ → 
   abbrev GoodBranch : TermBranch → Type 0
   GoodBranch b = AllByRecursion Stands (branch_names b) → Listed ((branch_plan own b).0.asks ++ (branch_plan own b).1.asks) → ReadiedBranch b
 
-  -- ---- what the variants ask of their parts
+  -- ---- what the variants demand of their parts
 
   kinds_Num : (n : ℕ) → kinds rows (Num n) ≡ record { word = true; truth = nat_lt n 2 }
   kinds_Num n = ap (kinds rows) (sym (rolls-Num n)) ∙ fold-roll-Term Kinds (Kinds × Kinds) (kinds_in_layer rows) kinds_of_branch (Term-F.Num n)
@@ -128,7 +128,7 @@ module _ (es : List Entry) (atoms : List Atom) (rows : List Row) (own : ℕ → 
 
   -- ---- lists
 
-  -- what all pairs ask, and what all pairs ask as one list
+  -- the atoms of all pairs, tested pair by pair and as one list
   pairs_listed : (o : CmpOp) (xs ys : List Leaf) → Listed (pair_atoms o xs ys) → IsTrue (leaves_listed atoms o xs ys)
   pairs_listed o [] ys h = refl
   pairs_listed o (x ∷ xs) ys h =

@@ -24,7 +24,7 @@ known_past [] n e = refl
 known_past (r ∷ rows) zero e = cc
 known_past (r ∷ rows) (suc n) e = known_past rows n e
 
--- what a row needs, where k defined rows stand before the table
+-- what a row needs, if i defined rows come before it
 abbrev needed : List Term → Row → ℕ → List ℕ
 needed terms row i = if is_defined row.role then names (term_at terms i) else inputs row.role
 
@@ -60,7 +60,7 @@ given_inputs State e = refl
 given_inputs (Hardware ids) e = cc
 given_inputs Defined e = cc
 
--- only a defined row has what its term tells
+-- only a defined row depends on its term
 role_same : (field : ℕ → ℕ) (n : ℕ) (class : Class) (role : Role) (x y : Leaf) → (is_defined role ≡ true → x ≡ y) → role_leaf field n class role x ≡ role_leaf field n class role y
 role_same field n class (Constant k) x y h = refl
 role_same field n class State x y h = refl

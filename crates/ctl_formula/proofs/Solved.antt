@@ -1,4 +1,4 @@
--- Control values exist where there is an order, and there is one assignment of them; beside a real cycle's values they agree.
+-- Control values exist and are unique if there is an order; and they agree with a real cycle's values.
 use Rattle.std.proofs.Common.{◌≡◌, ℕ, Bool, true, false, not, List, [], ◌∷◌, Option, Some, None, slice_get, nat_eq, nat_lt, refl, sym, ap, ◌∙◌, subst, arith}
 use Rattle.std.proofs.lemmas.Bool.Decides.{nat_tests}
 use Rattle.std.specs.List.{AllByRecursion}
@@ -41,7 +41,7 @@ pub controls_unique : (rows : List Row) (terms : List Term) (ids : List ℕ) (fi
 controls_unique rows terms ids field α o cv other h h' =
     unique (needs rows terms) (known rows) ids o (control_rule rows terms field α) (rule_local rows terms field α) (rule_known rows terms field α) cv other h h'
 
--- ---- leaves and words alike
+-- ---- properties that leaves and words share
 
 not_below : (x : ℕ) → signed_below x x ≡ false
 not_below x = grind (arith, nat_tests)

@@ -8,7 +8,7 @@ use Rattle.ctl_atoms.specs.declared.leaf.Leaf.TheVariants.{Name}
 use Rattle.ctl_formula.specs.Picks.{Within}
 use Rattle.hcl_types.specs.Lists.{each, some}
 
--- what a read past the end gives
+-- the pick that a read past the end returns
 abbrev pub none : Pick
 none = record { leaf = Name 0; gate = 0 }
 

@@ -1,4 +1,4 @@
--- What is taken once a pick is added.
+-- Which leaves are taken once a pick is added.
 use Rattle.std.proofs.Common.{◌≡◌, Bool, true, false, ◌||◌, ◌&&◌, refl, sym, ap, ◌∙◌, List, [], ◌∷◌, ◌++◌, ℕ, zero, suc, ◌<◌, length, get_or, arith}
 use Rattle.std.proofs.Math.ListN.{set}
 use Rattle.ctl_atoms.specs.declared.leaf.Leaf.{Leaf}
@@ -72,7 +72,7 @@ pub leaves_push : (ps : List Pick) (q : Pick) → leaves_of (ps ++ q ∷ []) ≡
 leaves_push [] q = refl
 leaves_push (p ∷ ps) q = ap (λ (xs : List Leaf). p.leaf ∷ xs) (leaves_push ps q)
 
--- a pick more of a list under a further truth
+-- the next pick of a list, under a further truth
 pub one_more : (t h k g r t' g' : Bool) → t' ≡ t → g' ≡ h && g → (t' || (k && g')) || (h && r) ≡ t || (h && ((k && g) || r))
 one_more t h k g r t' g' p q = or_same _ _ _ _ (or_same _ _ _ _ p (and_same _ _ _ _ refl q)) refl ∙ plain t h k g r
   where

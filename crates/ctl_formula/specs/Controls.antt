@@ -13,15 +13,15 @@ use Rattle.ctl_atoms.specs.declared.leaf.Leaf.TheVariants.{Name, Number}
 use Rattle.ctl_atoms.specs.Leaves.{Assignment, leaf_meaning}
 use Rattle.ctl_atoms.specs.Rows.{row_term}
 
--- what state or hardware is: a Value name is itself, each other name is the number of its field
+-- the leaf of a row of state or hardware: a Value name is itself, each other name is the number of its field
 abbrev pub field_leaf : (ℕ → ℕ) → ℕ → Class → Leaf
 field_leaf field n class.Number = Name n
 field_leaf field n class.Code = Number (field n)
 field_leaf field n class.Truth = Number (field n)
 field_leaf field n class.Value = Name n
 
--- What a row is: a constant is its number, state and hardware are their fields, a defined row is what its term is where comparisons
--- are answered by α and each name is what cv says. What stands past the rows is 0.
+-- The control value of a row: a constant's is its number, those of state and hardware are their fields, and a defined
+-- row's is that of its term, with comparisons answered by α and names by cv. Past the rows it is 0.
 abbrev pub role_leaf : (ℕ → ℕ) → ℕ → Class → Role → Leaf → Leaf
 role_leaf field n class (role.Constant k) told = Number k
 role_leaf field n class role.State told = field_leaf field n class
@@ -32,7 +32,7 @@ abbrev pub row_leaf : (ℕ → ℕ) → ℕ → Option Row → Leaf → Leaf
 row_leaf field n None told = Number 0
 row_leaf field n (Some row) told = role_leaf field n row.class row.role told
 
--- the equation of row n; field: the number of each Code or Truth name that is state or hardware
+-- the equation of row n; field gives the number of each Code or Truth name of the state or the hardware
 unfoldable pub control_rule : List Row → List Term → (ℕ → ℕ) → Assignment → ℕ → (ℕ → Leaf) → Leaf
 control_rule rows terms field α n cv = row_leaf field n (slice_get rows n) (value (leaf_meaning α) cv (row_term rows terms n))
 

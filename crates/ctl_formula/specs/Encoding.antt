@@ -1,4 +1,4 @@
--- What is known of the names of a table while their gates are made.
+-- The entries of the names of a table while their gates are made.
 use Rattle.std.specs.Prelude.{ℕ, ◌<◌, ◌≡◌, ◌⊎◌, Bool, true, false, ◌||◌, IsTrue, List, [], length, Option, Some, slice_get}
 use Rattle.nets.specs.Nets.{Gates}
 use Rattle.hcl_types.specs.declared.term.Term.{Term}
@@ -18,7 +18,8 @@ use Rattle.ctl_formula.specs.Places.{Spells}
 use Rattle.ctl_formula.specs.TakenPicks.{at}
 use Rattle.ctl_formula.specs.Translatable.{EntryEncodes, EntryWithin, IsEntryOf}
 
--- what is known of the first rows, so many, where no definition is read: each of them that isn't defined has its gates
+-- the entries of the first so_many rows before any definition is translated: each of these rows that isn't defined has
+-- its gates
 pub record IsInputEncoding (rows : List Row) (places : List Place) (so_many : ℕ) (net : Gates) (es : List Entry) : Type 0 where
   pub size : length es ≡ so_many
   pub within : (n : ℕ) (e : Entry) → slice_get es n ≡ Some e → EntryWithin (length net.gates) e
@@ -31,7 +32,8 @@ pub record IsInputEncoding (rows : List Row) (places : List Place) (so_many : �
 abbrev pub is_filled : Option Entry → Bool
 is_filled e = entry_truth e || entry_word e
 
--- Every gate that is known stands in the net, is of its row's kind with the leaves of its name, and shows the control value.
+-- Every entry made so far has its gates in the net, is of its row's kind with the leaves of its name, and shows the
+-- control value.
 pub record IsPartialEncoding (rows : List Row) (terms : List Term) (places : List Place) (listed : List Atom) (first : ℕ) (net : Gates) (es : List Entry) : Type 0 where
   pub size : length es ≡ length rows
   pub within : (n : ℕ) (e : Entry) → slice_get es n ≡ Some e → EntryWithin (length net.gates) e
@@ -40,7 +42,7 @@ pub record IsPartialEncoding (rows : List Row) (terms : List Term) (places : Lis
   pub shows : (w : List Bool) (α : Assignment) (field : ℕ → ℕ) (cv : ℕ → Leaf) → AtomsAre listed first w α → Spells places w field → AreControls rows terms field α cv →
       (n : ℕ) (e : Entry) → slice_get es n ≡ Some e → EntryEncodes (at net w) α e (cv n)
 
--- The same, and every row has a gate or picks.
+-- A partial encoding in which every row has a gate or picks.
 pub record IsEncoding (rows : List Row) (terms : List Term) (places : List Place) (listed : List Atom) (first : ℕ) (net : Gates) (es : List Entry) : Type 0 where
   pub filling : IsPartialEncoding rows terms places listed first net es
   pub filled : (n : ℕ) → n < length rows → IsTrue (is_filled (slice_get es n))

@@ -1,4 +1,4 @@
--- Control values beside the values of a real cycle, and what picks are.
+-- How control values relate to the values of a real cycle, and what the picks of a name are.
 use Rattle.std.specs.Prelude.{ℕ, ◌≡◌, Bool, true, false, IsTrue, List, [], ◌∷◌, nat_eq, Some, None, slice_get}
 use Rattle.std.specs.List.{AllByRecursion}
 use Rattle.hcl_types.specs.declared.term.Term.{Term}
@@ -23,47 +23,48 @@ use Rattle.ctl_formula.specs.Translatable.{leaves_of}
 abbrev pub HasControls : List Row → List Term → (ℕ → ℕ) → Assignment → Type 0
 HasControls rows terms field α = (cv : ℕ → Leaf) × AreControls rows terms field α cv
 
--- what a leaf is worth where names have values
+-- the word of a leaf, given the values of names
 abbrev pub leaf_value : (ℕ → ℕ) → Leaf → ℕ
 leaf_value f (Name n) = f n
 leaf_value f (Number n) = n
 
--- the comparisons of values
+-- the truths of atoms, by the values of names
 abbrev pub real_assignment : (ℕ → ℕ) → Assignment
 real_assignment f kind.Lt x y = signed_below (leaf_value f x) (leaf_value f y)
 real_assignment f kind.Eq x y = nat_eq (leaf_value f x) (leaf_value f y)
 
--- f gives each defined row the value of its term, and 0 to what stands past the rows
+-- f gives each defined row the value of its term, and 0 past the rows
 pub record IsDefinedBy (rows : List Row) (terms : List Term) (f : ℕ → ℕ) : Type 0 where
   pub defined : (n : ℕ) (row : Row) → slice_get rows n ≡ Some row → is_defined row.role ≡ true → f n ≡ value word_meaning f (row_term rows terms n)
   pub past : (n : ℕ) → slice_get rows n ≡ None → f n ≡ 0
 
--- The control value of each row that isn't defined is worth its value, of a hardware row once this holds of what it depends on.
+-- The control value of each row that isn't defined has the row's word; for a hardware row, if the same is true of the
+-- rows that it depends on.
 abbrev pub IsWorthGiven : List Row → (ℕ → ℕ) → (ℕ → Leaf) → Type 0
 IsWorthGiven rows f cv =
     (n : ℕ) (row : Row) → slice_get rows n ≡ Some row → is_defined row.role ≡ false → AllByRecursion (λ m. leaf_value f (cv m) ≡ f m) (inputs row.role) → leaf_value f (cv n) ≡ f n
 
--- Where comparisons are those of the values, and what is given agrees, each control value is worth its name's value.
+-- If comparisons are those of the values, and the given rows agree, each control value has the word of its name.
 abbrev pub ControlsAgree : Type 0
 ControlsAgree = (rows : List Row) (terms : List Term) (ids : List ℕ) (field : ℕ → ℕ) (f : ℕ → ℕ) (cv : ℕ → Leaf) →
     IsOrderOf rows terms ids → AreControls rows terms field (real_assignment f) cv → IsDefinedBy rows terms f → IsWorthGiven rows f cv →
     (n : ℕ) → leaf_value f (cv n) ≡ f n
 
--- each leaf stands once
+-- each leaf occurs once
 abbrev pub Apart : List Leaf → Type 0
 Apart [] = Unit {0}
 Apart (x ∷ xs) = (has_leaf xs x ≡ false) × Apart xs
 
--- no two picks of a name have one leaf
+-- no two picks of a name have the same leaf
 abbrev pub AreApart : List Entry → Type 0
 AreApart ctl = (n : ℕ) → IsTrue (has_picks ctl n) → Apart (leaves_of (picks_of ctl n))
 
--- Of picks the gate of each is true exactly where its leaf is the one that is picked, and one of them has that leaf.
+-- The gate of each pick is true exactly if its leaf is x, and one of the picks has the leaf x.
 pub record HasOneTruePick (net : Gates) (ps : List Pick) (w : List Bool) (x : Leaf) : Type 0 where
   pub each : (k : ℕ) (p : Pick) → slice_get ps k ≡ Some p → truth net p.gate w ≡ leaf_eq x p.leaf
   pub one : (k : ℕ) × (p : Pick) × (slice_get ps k ≡ Some p) × (p.leaf ≡ x)
 
--- where gates tell control values, exactly one gate of a name's picks is true, that of the control value
+-- if gates encode control values, exactly one gate of a name's picks is true, that of the control value
 abbrev pub OneGate : Type 0
 OneGate = (net : Gates) (ctl : List Entry) (w : List Bool) (α : Assignment) (cv : ℕ → Leaf) → EncodesControls net ctl w α cv → AreApart ctl →
     (n : ℕ) → IsTrue (has_picks ctl n) → HasOneTruePick net (picks_of ctl n) w (cv n)

@@ -1,4 +1,4 @@
--- Gates and picks of names, and what they tell of control values.
+-- Gates and picks of names, and what they say about control values.
 use Rattle.std.specs.Prelude.{ℕ, ◌<◌, ◌≡◌, Bool, true, false, IsTrue, ◌&&◌, List, [], length, Option, Some, None, slice_get}
 use Rattle.std.specs.List.{AllByRecursion}
 use Rattle.nets.specs.Nets.{Gates, truth}
@@ -50,12 +50,12 @@ gate_of ctl n = entry_gate (slice_get ctl n)
 abbrev pub picks_of : List Entry → ℕ → List Pick
 picks_of ctl n = entry_picks (slice_get ctl n)
 
--- each Truth name of the table has a gate, and each other name picks
+-- each Truth name of the table has a gate, and each other name has picks
 pub record Covers (rows : List Row) (ctl : List Entry) : Type 0 where
   pub gates : (n : ℕ) → has_gate ctl n ≡ (kinds_of_row (slice_get rows n)).truth
   pub picks : (n : ℕ) → has_picks ctl n ≡ (kinds_of_row (slice_get rows n)).word
 
--- ---- what gates tell
+-- ---- what gates say
 
 -- the gates of picks are among the first n
 abbrev pub Within : ℕ → List Pick → Type 0
@@ -70,8 +70,8 @@ pub record IsInside (net : Gates) (ctl : List Entry) : Type 0 where
   pub gates_in : (n : ℕ) → IsTrue (has_gate ctl n) → gate_of ctl n < length net.gates
   pub picks_in : (n : ℕ) → IsTrue (has_picks ctl n) → Within (length net.gates) (picks_of ctl n)
 
--- At a valuation w of the net the gates tell the control values cv: a gate is true where its name is, and some taken pick
--- passes a test exactly where the control value of its name passes it.
+-- At a valuation w of the net the gates encode the control values cv: a gate is true exactly if its name is, and some
+-- taken pick passes a test exactly if the control value of its name passes it.
 pub record EncodesControls (net : Gates) (ctl : List Entry) (w : List Bool) (α : Assignment) (cv : ℕ → Leaf) : Type 0 where
   pub truths_are : (n : ℕ) → IsTrue (has_gate ctl n) → truth net (gate_of ctl n) w ≡ leaf_holds α (cv n)
   pub picks_are : (n : ℕ) → IsTrue (has_picks ctl n) → (test : Leaf → Bool) → some_pick net w test (picks_of ctl n) ≡ test (cv n)

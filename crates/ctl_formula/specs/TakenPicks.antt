@@ -1,4 +1,4 @@
--- Which leaf is picked: the one whose gate is true.
+-- The leaf that is picked: the one whose gate is true.
 use Rattle.std.specs.Prelude.{ℕ, Bool, false, ◌&&◌, ◌||◌, List, [], ◌∷◌, ◌≡◌}
 use Rattle.ctl_atoms.specs.declared.leaf.Leaf.{Leaf}
 use Rattle.ctl_atoms.specs.declared.leaf.Atom.{Atom}
@@ -13,7 +13,7 @@ abbrev pub leaf_taken : (ℕ → Bool) → List Pick → Leaf → Bool
 leaf_taken tr [] x = false
 leaf_taken tr (q ∷ qs) x = (leaf_eq q.leaf x && tr q.gate) || leaf_taken tr qs x
 
--- x alone is taken
+-- the leaf x alone is taken
 pub record IsOnlyTaken (tr : ℕ → Bool) (ps : List Pick) (x : Leaf) : Type 0 where
   pub only : (y : Leaf) → leaf_taken tr ps y ≡ leaf_eq x y
 
@@ -21,7 +21,7 @@ pub record IsOnlyTaken (tr : ℕ → Bool) (ps : List Pick) (x : Leaf) : Type 0 
 abbrev pub at : Gates → List Bool → ℕ → Bool
 at n w g = truth n g w
 
--- what the comparison of a leaf with picks, of picks with picks asks is listed
+-- the atoms of the comparisons of a leaf with picks, and of picks with picks, are listed
 abbrev pub row_listed : List Atom → CmpOp → Leaf → List Pick → Bool
 row_listed atoms o x qs = each (λ (q : Pick). is_listed atoms (open_atom o x q.leaf)) qs
 

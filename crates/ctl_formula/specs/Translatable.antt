@@ -1,4 +1,4 @@
--- What a term needs so that it can be translated, the leaves that it can pick, and what the entries of names show.
+-- The conditions under which a term can be translated, the leaves that it can pick, and what the entries of names show.
 use Rattle.std.specs.Prelude.{ℕ, ◌+◌, ◌<◌, ◌≤◌, Bool, true, false, not, ◌&&◌, if◌then◌else◌, List, [], ◌∷◌, ◌≡◌, length, map, nat_eq, Option, Some, slice_get, get_or}
 use Rattle.hcl_tree.specs.declared.tree.CmpOp.{CmpOp}
 use Rattle.hcl_tree.specs.declared.tree.CmpOp.TheVariants as op
@@ -28,7 +28,8 @@ leaves_of ps = map (λ (p : Pick). p.leaf) ps
 abbrev pub leaves_listed : List Atom → CmpOp → List Leaf → List Leaf → Bool
 leaves_listed atoms o ls ms = each (λ (l : Leaf). each (λ (m : Leaf). is_listed atoms (open_atom o l m)) ms) ls
 
--- of a term: it is the number 1; it can be translated as a truth, as a word; the leaves that it can pick
+-- about a term: whether it is the number 1, whether it can be translated as a truth and as a word, and the leaves that
+-- it can pick
 pub record Translatable : Type 0 where
   pub one : Bool
   pub truth : Bool
@@ -72,7 +73,7 @@ translatable es atoms = fold-Term Translatable (Translatable × Translatable) (r
 abbrev pub branch_ready : List Entry → List Atom → TermBranch → Translatable × Translatable
 branch_ready es atoms = fold-TermBranch Translatable (Translatable × Translatable) (ready_layer es atoms) ready_pair
 
--- an entry is of a class, and its picks have these leaves
+-- an entry fits a class, and its picks have these leaves
 pub record IsEntryOf (class : Class) (leaves : List Leaf) (e : Entry) : Type 0 where
   pub truth : entry_truth (Some e) ≡ is_truth class
   pub word : entry_word (Some e) ≡ not (is_truth class)
@@ -89,17 +90,17 @@ EntryEncodes tr α Absent x = Unit {0}
 EntryEncodes tr α (Truth g) x = tr g ≡ leaf_holds α x
 EntryEncodes tr α (Picks ps) x = IsOnlyTaken tr ps x
 
--- the gates of all names stand in the net, and the atoms among its variables, from `first` on
+-- the gates of all names are in the net, and the atoms among its variables, from `first` on
 pub record HasScope (n : Gates) (es : List Entry) (listed : List Atom) (first : ℕ) : Type 0 where
   pub vars : first + length listed ≤ n.vars
   pub entries : (id : ℕ) (e : Entry) → slice_get es id ≡ Some e → EntryWithin (length n.gates) e
 
--- under a valuation the atoms have the truths of α, and each name that has a gate or picks the control value of cv
+-- under a valuation the atoms have the truths of α, and each name that has a gate or picks has the control value of cv
 pub record EncodesSoFar (n : Gates) (es : List Entry) (listed : List Atom) (first : ℕ) (w : List Bool) (α : Assignment) (cv : ℕ → Leaf) : Type 0 where
   pub atoms : AtomsAre listed first w α
   pub entries : (id : ℕ) (e : Entry) → slice_get es id ≡ Some e → EntryEncodes (at n w) α e (cv id)
 
--- pick k is one of the leaf
+-- pick k has this leaf
 pub record IsPlace (ps : List Pick) (k : ℕ) (leaf : Leaf) : Type 0 where
   pub within : k < length ps
   pub same : (get_or ps k (record { leaf = Name 0; gate = 0 })).leaf ≡ leaf

@@ -7,15 +7,15 @@ use hcl_types::NameId;
 use std::marker::Model;
 use y86_base::Items;
 
-/// A leaf or a number, with the gate that is true exactly where it is picked.
+/// A leaf or a number, with the gate that is true exactly if it is picked.
 #[derive(Clone, Copy, Debug, PartialEq, Eq)]
 pub struct Pick {
     pub leaf: Leaf,
     pub gate: u64,
 }
 
-/// Where the bits of a Code or Truth name that is state or hardware stand among the variables: `bits` of them from `first`
-/// on, the most significant one first.
+/// The place of a Code or Truth name of the state or the hardware among the variables: its `bits` bits from `first` on,
+/// the most significant one first.
 #[derive(Clone, Copy, Debug, PartialEq, Eq)]
 pub struct Place {
     pub name: NameId,
@@ -23,7 +23,7 @@ pub struct Place {
     pub bits: u32,
 }
 
-/// What is known of the control value of a name: nothing, the gate of its truth, or its picks.
+/// The gates made for the control value of a name: none yet, the gate of its truth, or its picks.
 #[derive(Debug, Drop)]
 pub enum Entry {
     Absent,
@@ -47,14 +47,14 @@ impl Model for Controls {
 }
 
 impl Controls {
-    /// The control values of names, name by name.
+    /// The control values with these entries, name by name.
     pub(crate) fn of(entries: Items<Entry>) -> Controls
         ensures { result ≡ entries }
     {
         Controls { entries }
     }
 
-    /// The gate of a Truth name: it is true exactly where the signal is.
+    /// The gate of a Truth name: it is true exactly if the signal is.
     pub fn truth(&self, n: NameId) -> u64
         requires { IsTrue (has_gate self.now n) }
         ensures { result ≡ gate_of self.now n }

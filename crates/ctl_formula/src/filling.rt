@@ -31,7 +31,7 @@ use std::alloc::Global;
 use y86_base::{Items, Memory};
 
 impl<'a> Scope<'a> {
-    /// What is known of a name of the class, by the term that defines it.
+    /// The entry of a name of the class, from the term that defines it.
     fn defined_entry(
         &self,
         alloc: Global,
@@ -69,7 +69,7 @@ impl<'a> Scope<'a> {
     }
 }
 
-/// Puts what is known of a name behind the others.
+/// Adds an entry after the others.
 fn push_entry(es: &mut Vec<Entry>, e: Entry) -> Result<(), Memory>
     ensures { OnOk result (es.new.items ≡ es.old.items ++ e ∷ []) }
 {
@@ -79,7 +79,7 @@ fn push_entry(es: &mut Vec<Entry>, e: Entry) -> Result<(), Memory>
     Ok(())
 }
 
-/// What is known of all rows before any definition.
+/// The entries of all rows before any definition is translated.
 fn given_entries(
     alloc: Global,
     b: &mut NetBuilder,
@@ -102,7 +102,7 @@ fn given_entries(
     Ok(es)
 }
 
-/// Writes what is known of a name.
+/// Writes the entry of a name.
 fn put_entry(es: &mut Vec<Entry>, id: usize, e: Entry)
     requires { id < length es.old.items }
     ensures { es.new.items ≡ slice_set es.old.items id e }
@@ -110,14 +110,14 @@ fn put_entry(es: &mut Vec<Entry>, id: usize, e: Entry)
     es[id] = e;
 }
 
-/// All entries as the control values of a design.
+/// Takes all entries as the control values of a design.
 fn finished(es: Vec<Entry>) -> Controls
     ensures { result ≡ es.items }
 {
     Controls::of(Items::of(es))
 }
 
-/// The definitions of a design, and the atoms that they compare, which are variables from `first` on.
+/// The definitions of a design, and its atoms, which are the variables from `first` on.
 #[derive(Drop)]
 struct Definitions<'a> {
     rows: &'a [Row],
@@ -136,7 +136,7 @@ impl<'a> Definitions<'a> {
         &self.terms[definitions_before(self.rows, id)]
     }
 
-    /// Makes the gates of a row that is defined, where those of each name in its term are made.
+    /// Makes the gates of a row if it is defined. Those of each name in its term must be there already.
     fn put_row(
         &self,
         alloc: Global,
@@ -200,7 +200,7 @@ impl<'a> Definitions<'a> {
         Ok(es)
     }
 
-    /// The same as `translate`, where the atoms are known.
+    /// Like `translate`, for atoms that are known.
     fn controls(
         &self,
         alloc: Global,
@@ -227,12 +227,12 @@ impl<'a> Definitions<'a> {
     }
 }
 
-/// The gates of the control values of a design's signals. Code and Truth names of the state and the hardware are the bits of
-/// `places`; the atoms are the last variables of `b`, in the order that `atoms` gives. The new gates are put behind those of
-/// `b`, which stay, as its variables do, whatever the answer.
+/// The gates of the control values of a design's signals. Code and Truth names of the state and the hardware are the
+/// bits of `places`; the atoms are the last variables of `b`, in the order that `atoms` gives. New gates are added
+/// after those of `b`. The variables and earlier gates of `b` stay, whatever the result.
 ///
-/// Errors: `Mixed` of the first definition, in table order, that mixes Code with Value; where none does, `AtomsOver64`, where
-/// the definitions compare more than 64 different pairs; `Memory`.
+/// Errors: `Mixed` of the first definition, in table order, that mixes Code with Value; if there is none,
+/// `AtomsOver64`, if the definitions have more than 64 different atoms; `Memory`.
 pub fn translate(
     alloc: Global,
     d: &Design,
@@ -253,7 +253,7 @@ pub fn translate(
     ensures encodes { (w : List Bool) (α : Assignment) (field : ℕ → ℕ) (cv : ℕ → Leaf) (listed : List Atom) → AreAtoms t.now.rows d.now.terms listed →
         AtomsAre listed (b.old.vars - length listed) w α → Spells places.now w field → AreControls t.now.rows d.now.terms field α cv →
         IfOk result (λ ctl. EncodesControls b.new ctl w α cv) }
-    // So there is an answer only where nothing is Mixed and there are at most 64 atoms.
+    // So there is a result only if nothing is Mixed and there are at most 64 atoms.
     ensures listed { IfOk result (λ ctl. (listed : List Atom) × AreAtoms t.now.rows d.now.terms listed) }
     ensures fault { IfErr result (IsCtlFault t.now.rows d.now.terms) }
 {

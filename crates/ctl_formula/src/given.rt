@@ -1,4 +1,4 @@
-//! The gates and picks of names that no definition gives: constants, state and hardware.
+//! The gates and picks of names without a definition: constants, state and hardware.
 ghost use Rattle.std.specs.Prelude.{◌≡◌, ◌<◌, ◌≤◌, ◌+◌, ◌==◌, ◌∷◌, [], not, is_some, true, false, length, List, Bool, ℕ, IfOk, IsTrue, Some};
 ghost use Rattle.std.specs.List.{AllByRecursion};
 ghost use Rattle.nets.specs.Nets.{ExtendsNet, IsGate};
@@ -24,7 +24,6 @@ use nets::NetBuilder;
 use std::alloc::Global;
 use y86_base::{Items, Memory};
 
-/// The place of a name.
 fn find_place(places: &[Place], name: NameId) -> Place
     requires { IsTrue (is_some (place_of places.now name)) }
     ensures { place_of places.now name ≡ Some result }
@@ -41,7 +40,7 @@ fn find_place(places: &[Place], name: NameId) -> Place
     }
 }
 
-/// The pick of one leaf alone.
+/// The single pick of one leaf.
 fn one_pick(alloc: Global, b: &mut NetBuilder, leaf: Leaf) -> Result<Vec<Pick>, Memory>
     ensures extends { ExtendsNet b.old b.new }
     ensures within { IfOk result (λ ps. Within (length b.new.gates) ps.items) }
@@ -54,7 +53,7 @@ fn one_pick(alloc: Global, b: &mut NetBuilder, leaf: Leaf) -> Result<Vec<Pick>, 
     Ok(ps)
 }
 
-/// The gate of: the bits of a place spell a number.
+/// A gate that is true if the bits of a place spell a number.
 fn spelling(b: &mut NetBuilder, place: Place, n: u64) -> Result<u64, Memory>
     requires { place.first + place.bits ≤ b.old.vars }
     ensures extends { ExtendsNet b.old b.new }
@@ -65,7 +64,7 @@ fn spelling(b: &mut NetBuilder, place: Place, n: u64) -> Result<u64, Memory>
     spells(b, net_fields::BitRange { first, bits }, n)
 }
 
-/// The gate of: the number at a place isn't 0.
+/// A gate that is true if the number at a place isn't 0.
 #[tactic(auto, using(nets::proofs::Truths::begins_more))]
 fn bit_gate(b: &mut NetBuilder, place: Place) -> Result<u64, Memory>
     requires { place.first + place.bits ≤ b.old.vars }
@@ -76,7 +75,7 @@ fn bit_gate(b: &mut NetBuilder, place: Place) -> Result<u64, Memory>
     b.not(zero)
 }
 
-/// The picks of a code: each number of 4 bits, where the bits of its place spell it.
+/// The picks of a code: each number of 4 bits, with a gate that is true if the bits of its place spell it.
 fn code_picks(alloc: Global, b: &mut NetBuilder, place: Place) -> Result<Vec<Pick>, Memory>
     requires few { place.bits ≤ 4 }
     requires inside { place.first + place.bits ≤ b.old.vars }
@@ -97,7 +96,7 @@ fn code_picks(alloc: Global, b: &mut NetBuilder, place: Place) -> Result<Vec<Pic
     Ok(ps)
 }
 
-/// What is known of a name of the state or the hardware: the number at its place, or itself.
+/// The entry of a name of the state or the hardware: the number at its place, or the name itself.
 fn field_entry(
     alloc: Global,
     b: &mut NetBuilder,
@@ -132,7 +131,7 @@ fn field_entry(
     }
 }
 
-/// What is known of a row that isn't defined, and nothing of one that is.
+/// The entry of a row that isn't defined, and `Absent` for one that is.
 pub fn given_entry(
     alloc: Global,
     b: &mut NetBuilder,

@@ -8,7 +8,7 @@ ghost use Rattle.ctl_atoms.specs.Leaves.{Assignment};
 ghost use Rattle.ctl_formula.specs.Controls.{AreControls};
 ghost use Rattle.ctl_formula.specs.Laws.{ControlsAgree, HasControls, OneGate};
 
-/// Where the rows of a table and a design have an order, exactly one assignment of control values solves their equations,
+/// If the rows of a table and a design have an order, exactly one assignment of control values solves their equations,
 /// whatever the numbers of the fields and the truths of comparisons are.
 pub fn law_of_controls()
     ensures exist { (rows : List Row) (terms : List Term) (ids : List ℕ) (field : ℕ → ℕ) (α : Assignment) → IsOrderOf rows terms ids → HasControls rows terms field α }
@@ -16,13 +16,14 @@ pub fn law_of_controls()
         (cv other : ℕ → Leaf) → AreControls rows terms field α cv → AreControls rows terms field α other → (n : ℕ) → cv n ≡ other n }
 {}
 
-/// Where the comparisons are those of the values of a cycle, and each given row's control value is worth its value, each
-/// control value is worth the value of its name.
+/// If the comparisons are those of the values of a cycle, and each given row's control value has the row's word, then
+/// each control value has the word of its name.
 pub fn law_of_agreement()
     ensures { ControlsAgree }
 {}
 
-/// Where gates tell control values, exactly one gate of a name's picks is true: that of the pick whose leaf is the control value.
+/// If gates encode control values, exactly one gate of a name's picks is true: that of the pick whose leaf is the
+/// control value.
 pub fn law_of_picks()
     ensures { OneGate }
 {}

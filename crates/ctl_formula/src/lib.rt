@@ -1,9 +1,9 @@
-//! The control value of each signal of a design as gates of a net: what a Boolean signal is, and which leaf or number each other
-//! signal picks.
+//! The control value of each signal of a design as gates of a net: the truth of a Boolean signal, and the leaf or
+//! number that any other signal picks.
 //!
-//! A pick is a leaf, with the gate that is true exactly where the signal picks it. An example: `word aluA = [ c :
-//! E_valA; 1 : E_valC ];` has two picks, `E_valA` with the gate of `c`, and `E_valC` with the gate of `!c`. So nothing
-//! is known of the words themselves, and one net tells of every situation which word each signal takes.
+//! A pick is a leaf, with the gate that is true exactly if the signal picks it. An example: `word aluA = [ c : E_valA;
+//! 1 : E_valC ];` has two picks, `E_valA` with the gate of `c`, and `E_valC` with the gate of `!c`. So the words
+//! themselves stay unknown, and one net says for every situation which word each signal takes.
 #![tactic(auto)]
 
 mod controls;

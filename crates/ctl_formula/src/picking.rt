@@ -1,4 +1,4 @@
-//! Lists of picks: a leaf is found, a gate is joined to its pick.
+//! Lists of picks: finding a leaf, and joining a gate to its pick.
 ghost use Rattle.std.specs.Prelude.{◌≡◌, ◌<◌, ◌&&◌, ◌||◌, ◌++◌, ◌∷◌, [], length, List, Bool, IfOk, OnOk, MatchOption, false};
 ghost use Rattle.ctl_atoms.specs.declared.leaf.Leaf.{Leaf};
 ghost use Rattle.nets.specs.Nets.{ExtendsNet, truth};
@@ -14,7 +14,7 @@ use nets::NetBuilder;
 use std::alloc::Global;
 use y86_base::Memory;
 
-/// The place of the pick of a leaf.
+/// The place of the pick of a leaf, if there is one.
 #[tactic(auto, using(ctl_atoms::proofs::Same::leaf_eq_true))]
 pub fn place_of(ps: &[Pick], leaf: Leaf) -> Option<usize>
     ensures { MatchOption result (has_leaf (leaves_of ps.now) leaf ≡ false) (λ k. IsPlace ps.now k leaf) }
@@ -27,7 +27,7 @@ pub fn place_of(ps: &[Pick], leaf: Leaf) -> Option<usize>
     None
 }
 
-/// Puts a pick behind the others.
+/// Adds a pick after the others.
 pub fn put_pick(out: &mut Vec<Pick>, pick: Pick) -> Result<(), Memory>
     ensures { OnOk result (out.new.items ≡ out.old.items ++ pick ∷ []) }
 {
@@ -37,7 +37,7 @@ pub fn put_pick(out: &mut Vec<Pick>, pick: Pick) -> Result<(), Memory>
     Ok(())
 }
 
-/// The same picks once more.
+/// A copy of the picks.
 pub fn copy_picks(alloc: Global, ps: &[Pick]) -> Result<Vec<Pick>, Memory>
     ensures { IfOk result (λ out. out.items ≡ ps.now) }
 {
@@ -47,7 +47,7 @@ pub fn copy_picks(alloc: Global, ps: &[Pick]) -> Result<Vec<Pick>, Memory>
     }
 }
 
-/// Joins a gate to the pick of a leaf, or adds the pick.
+/// Joins a gate to the pick of a leaf, or adds the pick if the leaf has none.
 pub fn add(b: &mut NetBuilder, out: &mut Vec<Pick>, leaf: Leaf, gate: u64) -> Result<(), Memory>
     requires within { Within (length b.old.gates) out.old.items }
     requires gate { gate < length b.old.gates }

@@ -1,4 +1,4 @@
-//! What a translation reads, and the gates of atoms and comparisons.
+//! The input of a translation, and the gates of atoms and comparisons.
 ghost use Rattle.std.specs.Prelude.{◌≡◌, ◌<◌, ◌≤◌, ◌+◌, ◌^◌, length, List, Bool, IfOk, IsTrue};
 ghost use Rattle.nets.specs.Nets.{ExtendsNet, truth};
 ghost use Rattle.ctl_atoms.specs.Leaves.{has_atom, AtomsAre, Assignment, open_lt, open_eq, open_atom, is_listed, decided_lt, leaf_lt, leaf_same, leaf_cmp};
@@ -14,7 +14,7 @@ use hcl_types::{CmpOp, is_below};
 use nets::NetBuilder;
 use y86_base::Memory;
 
-/// What a translation reads: what is known of each name, and the atoms, which are variables from `first` on.
+/// The input of a translation: the entry of each name, and the atoms, which are the variables from `first` on.
 #[derive(Drop)]
 pub struct Scope<'a> {
     pub entries: &'a [Entry],
@@ -22,7 +22,7 @@ pub struct Scope<'a> {
     pub first: u32,
 }
 
-/// Whether `x < y`, where that is known at once.
+/// Whether `x < y`, if that is decided at once.
 fn is_decided_below(x: Leaf, y: Leaf) -> bool
     ensures { result ≡ decided_lt x y }
 {
@@ -110,7 +110,7 @@ impl<'a> Scope<'a> {
         }
     }
 
-    /// The gate of: the leaf compares so with a pick whose gate is true.
+    /// A gate that is true if the leaf has this comparison with a pick whose gate is true.
     fn against(&self, b: &mut NetBuilder, op: CmpOp, x: Leaf, qs: &[Pick]) -> Result<u64, Memory>
         requires listed { IsTrue (row_listed self.now.atoms.now op x qs.now) }
         requires vars { self.now.first + length self.now.atoms.now ≤ b.old.vars }
@@ -129,7 +129,7 @@ impl<'a> Scope<'a> {
         Ok(g)
     }
 
-    /// The gate of: a pick whose gate is true compares so with a pick whose gate is true.
+    /// A gate that is true if a pick of the first list whose gate is true has this comparison with one of the second.
     fn pairs(&self, b: &mut NetBuilder, op: CmpOp, ps: &[Pick], qs: &[Pick]) -> Result<u64, Memory>
         requires listed { IsTrue (pairs_listed self.now.atoms.now op ps.now qs.now) }
         requires vars { self.now.first + length self.now.atoms.now ≤ b.old.vars }
@@ -149,7 +149,7 @@ impl<'a> Scope<'a> {
         Ok(g)
     }
 
-    /// The gate of a comparison of what two lists of picks pick.
+    /// The gate of a comparison of the leaves that two lists of picks pick.
     #[tactic(auto, using(crate::proofs::Chosen::pairs_from_leaves))]
     pub fn compare(
         &self,

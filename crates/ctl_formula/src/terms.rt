@@ -127,7 +127,7 @@ impl<'a> Scope<'a> {
         }
     }
 
-    /// The gate of: each term is true.
+    /// A gate that is true if each term is.
     #[cycle(translation)]
     fn all_of(&self, alloc: Global, b: &mut NetBuilder, all: &[Term]) -> Result<u64, Memory>
         requires open { HasScope b.old self.now.entries.now self.now.atoms.now self.now.first }
@@ -145,7 +145,7 @@ impl<'a> Scope<'a> {
         Ok(g)
     }
 
-    /// The gate of: some term is true.
+    /// A gate that is true if some term is.
     #[cycle(translation)]
     fn any_of(&self, alloc: Global, b: &mut NetBuilder, all: &[Term]) -> Result<u64, Memory>
         requires open { HasScope b.old self.now.entries.now self.now.atoms.now self.now.first }
@@ -163,7 +163,7 @@ impl<'a> Scope<'a> {
         Ok(g)
     }
 
-    /// The gate of: what is picked equals some member.
+    /// A gate that is true if the picked leaf equals some member.
     #[cycle(translation)]
     fn member_of(
         &self,
@@ -217,7 +217,7 @@ impl<'a> Scope<'a> {
         Ok(out)
     }
 
-    /// Adds the picks of a branch, and gives the gate of: no branch so far was taken.
+    /// Adds the picks of a branch, and returns a gate that is true if no branch so far was taken.
     #[cycle(translation)]
     fn branch_of(
         &self,

@@ -1,5 +1,5 @@
--- What a rule says of one signal, by a column of the instruction table (CS:APP 3e, figures 4.18 to 4.21). The signals that an operand,
--- an address or a PC is taken from are arguments.
+-- What a rule says about one signal, by a column of the instruction table (CS:APP 3e, figures 4.18 to 4.21). The
+-- signals that are the source of an operand, an address or a PC are arguments.
 use Rattle.std.specs.Prelude.{ℕ, ◌-◌, ◌^◌, Bool, true, Option, Some, None, if◌then◌else◌}
 use Rattle.nets.specs.Nets.{agree}
 use Rattle.ctl_atoms.specs.declared.leaf.Leaf.{Leaf}
@@ -16,7 +16,7 @@ use Rattle.y86_isa.specs.declared.columns.NextPcColumn.TheVariants.{Itself, Fall
 
 -- ---- one signal, under its control values
 
--- the signal picks this leaf; a leaf, if one is asked for; this number
+-- the signal picks this leaf; it picks the leaf, if one is demanded; it is this number
 abbrev pub picks_leaf : (ℕ → Leaf) → ℕ → Leaf → Bool
 picks_leaf cv name leaf = leaf_eq (cv name) leaf
 
@@ -27,11 +27,11 @@ picks_some_leaf cv name (Some leaf) = picks_leaf cv name leaf
 abbrev pub is_number : (ℕ → Leaf) → ℕ → ℕ → Bool
 is_number cv name n = picks_leaf cv name (Number n)
 
--- the signal, a truth, is this one
+-- the signal, a truth, has this value
 abbrev pub is_truth : Assignment → (ℕ → Leaf) → ℕ → Bool → Bool
 is_truth α cv name want = agree want (leaf_holds α (cv name))
 
--- ---- the leaf that a column asks for; a dash asks for none
+-- ---- the leaf that a column demands; a dash demands none
 
 -- aluA and aluB, from valA, valC and valB
 abbrev pub operand_leaf_a : AluAColumn → ℕ → ℕ → Option Leaf

@@ -1,4 +1,4 @@
--- What a gate tells of control values.
+-- What a gate says about control values.
 use Rattle.std.specs.Prelude.{ℕ, ◌+◌, ◌<◌, ◌≤◌, ◌≡◌, Bool, List, length, if◌then◌else◌, ◌&&◌}
 use Rattle.nets.specs.Nets.{Gates, truth}
 use Rattle.ctl_atoms.specs.declared.leaf.Leaf.{Leaf}
@@ -14,7 +14,7 @@ use Rattle.y86_isa.specs.declared.columns.RegisterColumn.{RegisterColumn}
 use Rattle.y86_isa.specs.declared.columns.RegisterColumn.TheVariants.{Dash, FieldA, FieldB, Stack}
 use Rattle.y86_isa.specs.Table.{no_register, stack_pointer}
 
--- gate g of the net has the truth f wherever the gates of names tell the control values cv
+-- gate g of the net has the truth f wherever the gates of names encode the control values cv
 pub record IsControlGate (net : Gates) (ctl : List Entry) (g : ℕ) (f : List Bool → Assignment → (ℕ → Leaf) → Bool) : Type 0 where
   pub within : g < length net.gates
   pub is : (w : List Bool) (α : Assignment) (cv : ℕ → Leaf) → EncodesControls net ctl w α cv → truth net g w ≡ f w α cv
@@ -24,7 +24,7 @@ abbrev pub leaf_expected : List Bool → ExpectedLeaf → Leaf
 leaf_expected w (want.This leaf) = leaf
 leaf_expected w (want.Field p) = Number (spelt w p.first p.bits)
 
--- a field that is wanted stands among so many variables
+-- a wanted field is among the first vars variables
 abbrev pub IsWithin : ℕ → ExpectedLeaf → Type 0
 IsWithin vars (want.This leaf) = Unit {0}
 IsWithin vars (want.Field p) = p.first + p.bits ≤ vars

@@ -1,4 +1,4 @@
-//! Gates that ask by the icode of a field, and its row of the instruction table.
+//! Gates of conditions by the icode of a field, and its row of the instruction table.
 ghost use Rattle.std.specs.Prelude.{◌≡◌, ◌<◌, ◌≤◌, ◌+◌, ℕ, Bool, List, IfOk};
 ghost use Rattle.nets.specs.Nets.{ExtendsNet};
 ghost use Rattle.y86_isa.specs.Table.{row};
@@ -16,15 +16,16 @@ use nets::NetBuilder;
 use y86_base::{Memory, Variant};
 use y86_isa::{Row, row};
 
-/// What a rule asks, by an icode and its row of the instruction table.
+/// A condition of a rule, by an icode and its row of the instruction table.
 pub trait RowGates {
-    /// What it asks.
+    /// The condition itself.
     ghost asks: { Self → ℕ → Row → List Bool → Assignment → (ℕ → Leaf) → Bool };
 
-    /// The fields that it reads are among so many variables, and the signals have control values.
+    /// In a net with this number of variables, the fields that it reads are among them, and its signals have control
+    /// values.
     ghost knows: { Self → ℕ → List Entry → Type 0 };
 
-    /// A gate of what it asks.
+    /// A gate of the condition.
     fn at_row(
         &self,
         b: &mut NetBuilder,
@@ -39,7 +40,7 @@ pub trait RowGates {
         ensures has_truth { IfOk result (λ g. IsControlGate b.new ctl.now g (asks self.now icode row)) };
 }
 
-/// What a rule asks by the icode that a field spells, and its row in the table of the variant.
+/// A gate of the condition for the icode that a field spells, and its row in the table of the variant.
 pub fn by_icode<R: RowGates>(
     b: &mut NetBuilder,
     ctl: &Controls,

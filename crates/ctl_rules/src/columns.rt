@@ -1,4 +1,4 @@
-//! Gates of what the columns of a row ask of signals.
+//! Gates of what the columns of a row demand of signals. A gate is true exactly if its function's comment is.
 ghost use Rattle.std.specs.Prelude.{◌≡◌, ◌<◌, ◌≤◌, ◌+◌, false, if◌then◌else◌, length, IfOk, IsTrue};
 ghost use Rattle.nets.specs.Nets.{ExtendsNet, truth};
 ghost use Rattle.y86_base.specs.Stat.{stat_number};
@@ -100,7 +100,7 @@ pub fn register_is(
     picks_leaf(b, ctl, name, expected_register(column, r_a, r_b))
 }
 
-/// The signal is the function of the ALU: the ifun where the row selects by it, else addition.
+/// The signal is the function of the ALU: the ifun if the row selects by it, else addition.
 pub fn function_is(
     b: &mut NetBuilder,
     ctl: &Controls,
@@ -134,7 +134,7 @@ fn status_of(icode: u64) -> u64
     }
 }
 
-/// The signal is the status of an icode, or that of an address error where a gate is true.
+/// The signal is the status of an icode, or that of an address error if a gate is true.
 pub fn status_is(
     b: &mut NetBuilder,
     ctl: &Controls,
@@ -158,7 +158,7 @@ pub fn status_is(
     )
 }
 
-/// What the next PC is taken from: the signals valP, valC and valM, and the bit that tells whether the condition holds.
+/// The sources of the next PC: the signals valP, valC and valM, and the bit that says whether the condition holds.
 #[derive(Clone, Copy, Debug, PartialEq, Eq)]
 pub struct NextPcInputs {
     pub val_p: NameId,
@@ -191,7 +191,7 @@ pub fn next_is(
     }
 }
 
-/// The signal picks valC where the condition holds, else valP.
+/// The signal picks valC if the condition holds, else valP.
 fn jump_is(
     b: &mut NetBuilder,
     ctl: &Controls,

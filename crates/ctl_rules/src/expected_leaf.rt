@@ -1,4 +1,4 @@
-//! Gates of: a signal takes what a rule asks of it.
+//! Gates that are true if a signal takes the value that a rule demands.
 ghost use Rattle.std.specs.Prelude.{◌≡◌, ◌<◌, ◌≤◌, ◌+◌, ◌==◌, ◌&&◌, ◌||◌, not, true, if◌then◌else◌, length, IfOk, IsTrue};
 ghost use Rattle.nets.specs.Nets.{ExtendsNet, IsGate, truth};
 ghost use Rattle.ctl_atoms.specs.Leaves.{leaf_eq};
@@ -52,7 +52,7 @@ fn one_taken(b: &mut NetBuilder, picks: &[Pick], want: ExpectedLeaf) -> Result<u
     Ok(any)
 }
 
-/// The signal, a word, is the wanted one.
+/// The signal picks the wanted word.
 pub fn picks_leaf(
     b: &mut NetBuilder,
     ctl: &Controls,
@@ -68,7 +68,7 @@ pub fn picks_leaf(
     one_taken(b, ctl.picks(name), want)
 }
 
-/// The signal picks the leaf, if one is asked for.
+/// The signal picks the leaf, if one is demanded.
 pub fn picks_some_leaf(
     b: &mut NetBuilder,
     ctl: &Controls,
@@ -86,7 +86,7 @@ pub fn picks_some_leaf(
     }
 }
 
-/// The signal is the first wanted word where a gate is true, the second where it is false.
+/// The signal is the first wanted word if a gate is true, the second if it is false.
 pub fn picks_leaf_if(
     b: &mut NetBuilder,
     ctl: &Controls,
@@ -108,7 +108,7 @@ pub fn picks_leaf_if(
     choose(b, when, first, second)
 }
 
-/// The signal, a truth, is this one.
+/// The signal, a truth, has this value.
 pub fn is_truth(b: &mut NetBuilder, ctl: &Controls, name: NameId, want: bool) -> Result<u64, Memory>
     requires inside { IsInside b.old ctl.now }
     requires known { IsTrue (has_gate ctl.now name) }

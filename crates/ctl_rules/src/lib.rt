@@ -1,7 +1,7 @@
-//! What the obligations of a datapath ask of single signals, as gates, by the columns of the instruction table.
+//! What the obligations of a datapath demand of single signals, as gates, by the columns of the instruction table.
 //!
-//! An example: the row of `addq` says that input A of the ALU is valA. So one gate is true where E doesn't hold an
-//! `addq`, or where `aluA` picks `E_valA`.
+//! An example: the row of `addq` says that input A of the ALU is valA. So one gate is true if E doesn't hold an `addq`,
+//! or if `aluA` picks `E_valA`.
 #![tactic(auto, using(nets::proofs::Truths::begins_more, ctl_formula::proofs::Inside::inside_more))]
 
 mod by_row;

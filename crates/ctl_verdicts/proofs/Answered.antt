@@ -1,4 +1,4 @@
--- From what is decided of the rules of a design to what a verdict says of it.
+-- From the decision on the rules of a design to the verdict on the design.
 use Rattle.std.proofs.Common.{◌≡◌, ℕ, zero, ◌+◌, ◌-◌, ◌<◌, ◌≤◌, Bool, true, false, List, [], length, slice_get, Option, Some, None, sym, ap, ◌∙◌, subst, arith}
 use Rattle.std.proofs.lemmas.Bool.{false≢true}
 use Rattle.std.proofs.lemmas.Option.{slice_get_within}
@@ -23,7 +23,7 @@ use Rattle.ctl_verdicts.specs.ObligationSet.{ObligationSet, AreRulesOfSet, Meets
 use Rattle.ctl_verdicts.specs.declared.decision.FailedRule.{FailedRule}
 use Rattle.ctl_verdicts.proofs.AtomBits.{AreApart, apart_added, bits_are, length-truth_bits, told_are, told_by, truth_bits}
 
--- a least list of one predicate is that of another that holds of the same lists
+-- a least list with one property is the least with another property that the same lists have
 least_for : (vars size : ℕ) (F G : List Bool → Type 0) (w : List Bool) → vars ≡ size → ((u : List Bool) → length u ≡ vars → F u → G u) →
     ((u : List Bool) → length u ≡ vars → G u → F u) → IsLeastOf vars F w → IsLeastOf size G w
 least_for vars size F G w e to from h =
@@ -101,14 +101,14 @@ module _ (q : ObligationSet) (terms : List Term) (net : Gates) (list : List Rule
           false≢true (sym (false_at (i - 1) rule.0 u rule.1 (subst (λ n. IsFalseAtBits q terms atoms n u) back f))
           ∙ h.earlier (i - 1) rule.0 (omega (arith, l, lt)) rule.1 u (size ∙ sym rules.vars))
 
-  -- what a first false rule says of the design
+  -- what a first false rule says about the design
   pub no_by : (failure : FailedRule) → IsRuleDecision net list (Some failure) →
       (MeetsObligationSet q terms → ⊥) × (xs : List Atom) × AreAtoms q.rows terms xs × IsLeastFalseOf q terms xs failure.rule failure.valuation.bits
   no_by failure d =
       let told = subst (λ n. IsLeastFalseOf q terms atoms n failure.valuation.bits) (sym (d.3)) (first_false d.0 d.1 failure.valuation.bits d.2) in
       (rejected failure.rule failure.valuation.bits told.from_one told.to_last told.least.holds, atoms, rules.are, told)
 
--- what is decided of the rules of a design is the verdict on it
+-- the decision on the rules of a design is the verdict on it
 pub verdict_by : (q : ObligationSet) (terms : List Term) (net : Gates) (list : List Rule) (ids : List ℕ) → IsOrderOf q.rows terms ids → AreRulesOfSet q terms net list
     → (o : Option FailedRule) → IsRuleDecision net list o → IsVerdict q terms o
 verdict_by q terms net list ids ordered rules None d =

@@ -1,4 +1,4 @@
--- What is decided of the gates of rules is decided of the rules.
+-- The decision on the gates of rules is the decision on the rules.
 use Rattle.std.proofs.Common.{◌≡◌, ℕ, ◌<◌, Bool, false, List, length, get_or, slice_get, Option, Some, sym, subst, arith}
 use Rattle.std.proofs.lemmas.Option.{slice_get_within, slice_get-get_or}
 use Rattle.nets.specs.Nets.{Gates, truth}

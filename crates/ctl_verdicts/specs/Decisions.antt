@@ -1,12 +1,13 @@
--- What is decided of a list of rules over one net: all are true of every valuation, or there is a first that is false of some, and a
--- least such valuation.
+-- The decision on a list of rules over one net: all are true at every valuation, or there is a first one that is false
+-- at some, and a least such valuation.
 use Rattle.std.specs.Prelude.{◌≡◌, ℕ, ◌<◌, Bool, false, List, length, get_or, slice_get, Option, Some, None}
 use Rattle.nets.specs.Nets.{Gates, truth}
 use Rattle.bdd_decide.specs.Decisions.{IsAlwaysTrue, IsLeastOf}
 use Rattle.ctl_rules.specs.declared.rules.Rule.{Rule}
 use Rattle.ctl_verdicts.specs.declared.decision.FailedRule.{FailedRule}
 
--- the rule at place k of the list, from 0 on, is false of the valuation w, and of none that is less; the rules before it are true
+-- the rule at place k of the list, from 0 on, is false at the valuation w, and at no lesser one; the rules before it
+-- are true
 pub record IsFirstFalseRule (n : Gates) (list : List Rule) (k : ℕ) (rule : Rule) (w : List Bool) : Type 0 where
   pub there : slice_get list k ≡ Some rule
   pub earlier : (j : ℕ) (r : Rule) → j < k → slice_get list j ≡ Some r → IsAlwaysTrue n r.gate

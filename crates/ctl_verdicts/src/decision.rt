@@ -1,4 +1,4 @@
-//! The first rule that is false of a valuation.
+//! The first rule that is false at some valuation.
 ghost use Rattle.std.specs.Prelude.{◌<◌, IfOk, IfSome, length, List, ℕ};
 ghost use Rattle.bdd_decide.specs.Decisions.{IsGateDecision as IsDecisionOf};
 ghost use Rattle.nets.specs.Nets.{Gates};
@@ -10,14 +10,13 @@ use nets::{Net, Valuation};
 use std::alloc::Global;
 use y86_base::Memory;
 
-/// A rule that is false of some valuation: its number, and the least such valuation.
+/// A rule that is false at some valuation: its number, and the least such valuation.
 #[derive(Debug, PartialEq, Drop)]
 pub struct FailedRule {
     pub rule: u32,
     pub valuation: Valuation,
 }
 
-/// The gates of rules.
 fn gates_of(alloc: Global, list: &[Rule]) -> Result<Vec<u64>, Memory>
     ensures { IfOk result (λ gates. AreTheirGates list.now gates.items) }
 {
@@ -30,7 +29,7 @@ fn gates_of(alloc: Global, list: &[Rule]) -> Result<Vec<u64>, Memory>
     Ok(gates)
 }
 
-/// What is decided of rules, from what is of their gates.
+/// The decision on rules, from the decision on their gates.
 #[tactic(auto, using(crate::proofs::Decided::none_failed))]
 fn failure_of(list: &[Rule], counter: Option<Counterexample>) -> Option<FailedRule>
     requires { IfSome counter (λ c. c.place < length list.now) }
@@ -45,9 +44,9 @@ fn failure_of(list: &[Rule], counter: Option<Counterexample>) -> Option<FailedRu
     }
 }
 
-/// The first rule of a list that is false of some valuation, with the least such valuation, the variables in their
-/// order and 0 before 1. `None` where every rule is true of every valuation. The diagrams have the given orders, which
-/// are for time alone.
+/// The first rule of a list that is false at some valuation, with the least such valuation, the variables in their
+/// order and 0 before 1. `None` if every rule is true at every valuation. The diagrams use the given orders, which
+/// affect speed alone.
 #[tactic(auto, using(crate::proofs::Decided::their_gates, crate::proofs::Decided::place_within))]
 pub fn decide_in_order(
     alloc: Global,
@@ -63,7 +62,7 @@ pub fn decide_in_order(
     Ok(failure_of(list, counter))
 }
 
-/// The same, with the variables in their order.
+/// Like `decide_in_order`, with the variables in their own order.
 #[tactic(auto, using(crate::proofs::Decided::their_gates, crate::proofs::Decided::place_within))]
 pub fn decide(alloc: Global, net: &Net, list: &[Rule]) -> Result<Option<FailedRule>, Memory>
     requires { HaveGatesOfNet net.now list.now }

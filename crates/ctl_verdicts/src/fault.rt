@@ -1,4 +1,4 @@
-//! Why there is no verdict.
+//! The errors of a check.
 ghost use Rattle.std.specs.Prelude.{◌≡◌, List};
 ghost use Rattle.hcl_types.specs.declared.table.Row.{Row};
 ghost use Rattle.hcl_types.specs.declared.term.Term.{Term};
@@ -12,11 +12,11 @@ use ctl_atoms::CtlFault;
 pub enum CheckFault {
     /// The design has no control values.
     Ctl(CtlFault),
-    /// An allocation was refused.
+    /// Memory ran out.
     Memory,
 }
 
-/// A fault of the control values as one of the check.
+/// Turns a fault of the control values into one of the check.
 pub fn check_fault(fault: CtlFault) -> CheckFault
     ensures { (rows : List Row) (terms : List Term) → IsCtlFault rows terms fault → IsFault rows terms result }
 {

@@ -1,4 +1,4 @@
-//! The verdict on a design: the first of its rules that is false of some valuation, with the least such valuation.
+//! The verdict on a design: the first of its rules that is false at some valuation, with the least such valuation.
 #![tactic(auto)]
 
 mod decision;

@@ -26,7 +26,7 @@ module _ {M : Type 0} (step : M → Option Rec → M → Type 0) where
       let next : k + suc d ≡ suc (k + d) = omega arith in
       rw next (m, records, None, calls_idle p k d m records h idle, idle, sym (append-nil records))
 
-  -- one call more, that answers a record
+  -- another call, which returns a record
   pub calls_more : (p : M) (k : ℕ) (m q : M) (r : Rec) (before : List Rec) → IsAfter step p k m before → step m (Some r) q → length before ≡ k →
       (records : List Rec) × IsAfter step p (k + 1) q records × (length records ≡ k + 1)
   calls_more p k m q r before h c e =
@@ -34,14 +34,14 @@ module _ {M : Type 0} (step : M → Option Rec → M → Type 0) where
       let next : k + 1 ≡ suc k = omega arith in
       (records, rw next (m, before, Some r, h, c, refl), rw length-append (omega (arith, e)))
 
-  -- a call that answers no record ends all calls, where it leaves the machine as it was
+  -- a call that returns no record is the last to do anything, if it leaves the machine as it was
   pub calls_at_end : (p : M) (k limit : ℕ) (m q : M) (records : List Rec) → IsAfter step p k m records → k ≤ limit → step m None q → q ≡ m → IsAfter step p limit q records
   calls_at_end p k limit m q records h le c same =
       let idle : step m None m = subst (λ x. step m None x) same c in
       let sum : k + (limit - k) ≡ limit = omega (arith, le) in
       rw same (subst (λ n. IsAfter step p n m records) sum (calls_idle p k (limit - k) m records h idle))
 
--- machines whose states go through cycles, and that keep what they are beside their states
+-- machines whose states go through cycles, and whose other parts stay
 module _ {M S : Type 0} (step : M → Option Rec → M → Type 0) (cycle : S → Option Rec → S → Type 0) (state : M → S) (Keeps : M → Type 0)
     (kept : (m : M) (r : Option Rec) (q : M) → Keeps m → step m r q → Keeps q × cycle (state m) r (state q)) where
   pub after_states : (p : M) → Keeps p → (k : ℕ) (q : M) (records : List Rec) → IsAfter step p k q records → Keeps q × IsAfter cycle (state p) k (state q) records

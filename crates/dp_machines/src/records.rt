@@ -1,4 +1,4 @@
-//! What the calls of every machine ask: whether it goes on, and how many records a cycle leaves.
+//! What the calls of every machine share: whether it goes on, and how many records a cycle leaves.
 ghost use Rattle.std.specs.Prelude.{◌≡◌, ◌≤◌, length};
 ghost use Rattle.std.specs.Option.{option_to_list};
 ghost use Rattle.y86_isa.specs.Machine.{is_aok};
@@ -13,7 +13,7 @@ pub fn is_aok_stat(stat: Stat) -> bool
     matches!(stat, Stat::Aok)
 }
 
-/// How many records a cycle leaves that retires this.
+/// The number of records of a cycle that retires this: 1 or 0.
 pub fn record_count(retired: Option<Rec>) -> u64
     ensures count { result ≡ length (option_to_list retired) }
     ensures few { result ≤ 1 }

@@ -11,13 +11,13 @@ use yis_run::Ran;
 
 /// A machine that does one clock cycle a call, until it stops.
 pub trait ClockedMachine {
-    /// What a call does: the machine before it, the record that it answers, and the machine behind it.
+    /// What a call does: the machine before it, the record that it returns, and the machine after it.
     ghost step: { Self → Option Rec → Self → Type 0 };
 
     /// The status of a machine.
     ghost stat: { Self → Stat };
 
-    /// Does one cycle, and answers its record. A machine whose status isn't AOK has stopped, and answers none.
+    /// Does one cycle, and returns its record. A machine whose status isn't AOK has stopped, and returns none.
     fn cycle(&mut self) -> Option<Rec>
         ensures step { step self.old result self.new }
         ensures stopped { IsNone result ↔ (stat self.old ≢ Aok) };
@@ -26,7 +26,7 @@ pub trait ClockedMachine {
     ghost stays: { (p q : Self) → is_aok (stat p) ≡ false → step p None q → q ≡ p };
 }
 
-/// Runs a machine until it stops, but for at most `limit` cycles, and counts the records. It takes no memory.
+/// Runs a machine until it stops, but for at most `limit` cycles, and counts the records. It allocates no memory.
 pub fn run<M: ClockedMachine>(machine: &mut M, limit: u64) -> Ran
     ensures calls { (records : List Rec) × IsAfter M.step machine.old limit machine.new records × (length records ≡ result.steps) }
     ensures within { result.steps ≤ limit }

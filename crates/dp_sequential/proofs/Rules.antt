@@ -18,7 +18,7 @@ use Rattle.dp_sequential.specs.Path.{AreGivenIn, SequentialPath, Solves, rule_in
 use Rattle.dp_signals.specs.declared.sequential_rows.SignalRows.{SignalRows}
 
 module _ {S : Type 0} (rows : SignalRows) (path : SequentialPath S) (laws : IsSequential rows path) where
-  -- ---- what is given, in its rows
+  -- ---- the given values, in their rows
 
   pub state_put : (s : S) (values : List ℕ) → Starts constants values → length values ≡ path.count → AreGivenIn path s (put_words constant_count (path.words s) values)
   state_put s values h size =
@@ -41,13 +41,13 @@ module _ {S : Type 0} (rows : SignalRows) (path : SequentialPath S) (laws : IsSe
         subst (λ n. AllByRecursion (λ id. IsComputed (length (path.given s)) path.first terms n id) ids) (laws.size ∙ sym e)
         (order_computes path.table laws.givens laws.units laws.defines path.hardware path.first laws.layout (path.given s) (path.block v s) terms (laws.given_size s) (laws.reads v s) bound ids o)
 
-    -- what is given stays
+    -- the given values stay
     pub keeps : (values : List ℕ) → AreGivenIn path s values → AreGivenIn path s (values_along (rule_in path v terms s) values ids)
     keeps values h =
         over_along (path.given s) path.first terms (path.count - path.hardware) (length values) (rule_in path v terms s) ids values
         (computes (length values) (given_size s values h)) h
 
-    -- whatever stands behind what is given
+    -- whatever comes after the given values
     pub solves_over : (rest : List ℕ) → length rest ≡ path.count - path.hardware → Solves path v terms s (at (values_along (rule_in path v terms s) (path.given s ++ rest) ids))
     solves_over rest size =
         along_solves path.table laws.givens laws.units laws.defines path.hardware path.first laws.layout (path.given s) (path.block v s) terms (laws.given_size s) (laws.reads v s) bound rest ids

@@ -1,4 +1,4 @@
--- The record of a cycle tells all that it changed.
+-- The record of a cycle reports all that it changed.
 use Rattle.std.proofs.Common.{◌≡◌, ℕ, ◌==◌, Bool, true, false, cond, refl, ap, ◌∙◌}
 use Rattle.y86_base.specs.Registers.{with_register}
 use Rattle.y86_base.specs.Stat.{stat_of}
@@ -15,7 +15,7 @@ use Rattle.dp_sequential.specs.Cycle.{flags_by, memory_by, record_by, registers_
 use Rattle.dp_signals.specs.declared.sequential_rows.SignalRows.{SignalRows}
 
 module _ (r : SignalRows) (m : Machine) (f : ℕ → ℕ) (pc : ℕ) where
-  -- the machine after a cycle that tells this status, and the record with these flags
+  -- the machine after a cycle with this status, and the record with these flags
   abbrev next_by : Bool → Stat → Machine
   next_by goes stat =
       cond goes

@@ -1,5 +1,5 @@
--- What one cycle of a sequential datapath does with the values of its signals (CS:APP 3e, section 4.3.4). r says where they stand, and f
--- gives the value of each row of the table.
+-- What one cycle of a sequential datapath does with the values of its signals (CS:APP 3e, section 4.3.4). r gives the
+-- row of each signal, and f gives the value of each row of the table.
 use Rattle.std.specs.Prelude.{ℕ, ◌==◌, List, Option, if◌then◌else◌}
 use Rattle.y86_base.specs.Registers.{register}
 use Rattle.y86_base.specs.Stat.{stat_of}
@@ -14,7 +14,7 @@ use Rattle.y86_isa.specs.declared.machine.Store.{Store}
 use Rattle.dp_signals.specs.Values.{bit}
 use Rattle.dp_signals.specs.declared.sequential_rows.SignalRows.{SignalRows}
 
--- the value of a hardware row where a cycle works on the machine m: the register file, the ALU and the condition, data memory
+-- the value of a hardware row in a cycle on the machine m: the register file, the ALU and the condition, data memory
 unfoldable pub worked_by : SignalRows → Machine → ℕ → (ℕ → ℕ) → ℕ
 worked_by r m n f =
     if n == r.val_a then register m.regs (f r.src_a)
@@ -24,7 +24,7 @@ worked_by r m n f =
     else (if n == r.val_m then data_read m.mem (f r.mem_addr) (set (f r.mem_read))
     else bit (data_error m.mem (f r.mem_addr) (set (f r.mem_read)) (set (f r.mem_write)))))))
 
--- before those, the fetched fields and words
+-- the value of a hardware row in a cycle on the machine m: the fetched fields and words, and the rows of worked_by
 unfoldable pub fetched_by : SignalRows → Machine → ℕ → (ℕ → ℕ) → ℕ
 fetched_by r m n f =
     if n == r.r_a then field_a m.mem m.pc (set (f r.need_regids))
@@ -33,7 +33,7 @@ fetched_by r m n f =
     else (if n == r.val_p then behind m.pc (set (f r.need_regids)) (set (f r.need_val_c))
     else worked_by r m n f)))
 
--- before those, instruction memory at the PC
+-- the value of a hardware row in a cycle on the machine m: instruction memory at the PC, and the rows of fetched_by
 unfoldable pub block_by : SignalRows → Variant → Machine → ℕ → (ℕ → ℕ) → ℕ
 block_by r v m n f =
     if n == r.imem_icode then (reading v m.mem m.pc).icode
@@ -41,7 +41,7 @@ block_by r v m n f =
     else (if n == r.imem_error then bit (reading v m.mem m.pc).error
     else fetched_by r m n f))
 
--- the store of the cycle: mem_data at mem_addr, where mem_write asks for it and no error is told
+-- the store of the cycle: mem_data at mem_addr, if mem_write requests it and there is no error
 abbrev pub store_by : SignalRows → (ℕ → ℕ) → Option Store
 store_by r f = data_store (f r.mem_addr) (f r.mem_data) (set (f r.mem_write)) (set (f r.dmem_error))
 
@@ -71,8 +71,8 @@ record_by r pc flags f =
       stat = stat_of (f r.stat);
     })
 
--- the machine after a cycle on the machine m, which leads to this PC where its Stat is AOK: with another Stat nothing changes but the
--- status
+-- the machine after a cycle on the machine m, which leads to this PC if its Stat is AOK; with another Stat, only the
+-- status changes
 abbrev pub stepped : SignalRows → Machine → (ℕ → ℕ) → ℕ → Machine
 stepped r m f pc =
     if f r.stat == 1 then

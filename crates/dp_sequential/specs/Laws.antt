@@ -18,10 +18,10 @@ pub record IsSequential {S : Type 0} (rows : SignalRows) (path : SequentialPath 
   pub front : path.hardware ≤ path.count
   pub within : path.first ≤ path.count
   pub reads : (v : Variant) (s : S) → ReadsInputs units path.hardware path.first (path.block v s)
-  -- what is given are the constants, then words of the state
+  -- the given values are the constants, then words of the state
   pub given : (s : S) → path.given s ≡ constants ++ path.words s
   pub given_size : (s : S) → length (path.given s) ≡ path.hardware
-  -- hardware works on the machine at the PC of the cycle, and the record is told there
+  -- hardware works on the machine at the PC of the cycle, and the record has that PC
   pub blocks : (v : Variant) (s : S) (n : ℕ) (f : ℕ → ℕ) → path.block v s n f ≡ block_by rows v (machine_at path s (path.pc s f)) n f
   pub tells : (s : S) (f : ℕ → ℕ) → path.told s f ≡ record_by rows (path.pc s f) (path.flags (path.next s f)) f
   -- a cycle keeps the size of the memory

@@ -30,16 +30,16 @@ seen v terms order state = record { variant = v; terms = terms; order = order; s
 abbrev pub started_on : {S : Type 0} → SequentialPath S → Variant → List Term → List ℕ → List ℕ → MachineView S
 started_on path v terms order image = seen v terms order (path.start image)
 
--- a call on the machine p that answers r and leaves the machine q: its state goes through one cycle, and the rest stays
+-- a call on the machine p that returns r and leaves the machine q: its state goes through one cycle, and the rest stays
 pub record IsCall {S : Type 0} (path : SequentialPath S) (p : MachineView S) (r : Option Rec) (q : MachineView S) : Type 0 where
   pub cycle : IsCycle path p.variant p.terms p.state r q.state
   pub rest : q ≡ record p { state = q.state }
 
--- q is the machine after k calls on p, and these are the records that they answered, the first one first
+-- q is the machine after k calls on p, and these are the records that they returned, the first one first
 abbrev pub CallsOn : {S : Type 0} → SequentialPath S → MachineView S → ℕ → MachineView S → List Rec → Type 0
 CallsOn path = IsAfter (IsCall path)
 
--- what is true of every machine: the design is bound to the table, and the order is one of both
+-- what is true of every machine: the design is bound to the table, and the order is one of this design
 pub record IsOfTable (table : List Row) (terms : List Term) (order : List ℕ) : Type 0 where
   pub bound : IsBound table terms
   pub ordered : IsOrderOf table terms order

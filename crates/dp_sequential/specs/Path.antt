@@ -14,9 +14,9 @@ use Rattle.dp_signals.specs.Equations.{IsOver, rule_of}
 
 -- a sequential datapath; the functions ℕ → ℕ are the values of a cycle, by row
 pub record SequentialPath (S : Type 0) : Type 0 where
-  -- the rows of its signals: what is given comes first
+  -- the rows of its signals, the given ones first
   pub table : List Row
-  -- the first row of hardware, the first that a file defines, and how many rows there are
+  -- the first row of hardware, the first row that a file defines, and the number of rows
   pub hardware : ℕ
   pub first : ℕ
   pub count : ℕ
@@ -25,7 +25,7 @@ pub record SequentialPath (S : Type 0) : Type 0 where
   pub words : S → List ℕ
   -- what hardware computes in a row
   pub block : Variant → S → ℕ → (ℕ → ℕ) → ℕ
-  -- what the state has of a machine
+  -- the parts of a machine that the state holds
   pub regs : S → List ℕ
   pub flags : S → Flags
   pub stat : S → Stat
@@ -38,11 +38,11 @@ pub record SequentialPath (S : Type 0) : Type 0 where
   -- the record of a cycle
   pub told : S → (ℕ → ℕ) → Rec
 
--- the machine that a state is at a PC
+-- the machine that a state gives at a PC
 abbrev pub machine_at : {S : Type 0} → SequentialPath S → S → ℕ → Machine
 machine_at path s pc = record { regs = path.regs s; flags = path.flags s; pc = pc; stat = path.stat s; mem = path.mem s }
 
--- what the equation of row n says
+-- the value that the equation of row n demands
 abbrev pub rule_in : {S : Type 0} → SequentialPath S → Variant → List Term → S → ℕ → (ℕ → ℕ) → ℕ
 rule_in path v terms s = rule_of (path.given s) path.first (path.block v s) terms
 
@@ -50,7 +50,7 @@ rule_in path v terms s = rule_of (path.given s) path.first (path.block v s) term
 abbrev pub Solves : {S : Type 0} → SequentialPath S → Variant → List Term → S → (ℕ → ℕ) → Type 0
 Solves path v terms s f = IsSolution (rule_in path v terms s) f
 
--- values over what is given in the state s: the other rows may hold what another cycle left
+-- values that begin with those given in the state s: the other rows may hold what another cycle left
 abbrev pub AreGivenIn : {S : Type 0} → SequentialPath S → S → List ℕ → Type 0
 AreGivenIn path s values = IsOver (path.given s) (path.count - path.hardware) values
 
@@ -64,10 +64,10 @@ pub record IsCycle {S : Type 0} (path : SequentialPath S) (v : Variant) (terms :
 abbrev pub RunFrom : {S : Type 0} → SequentialPath S → Variant → List Term → S → ℕ → S → List Rec → Type 0
 RunFrom path v terms = IsAfter (IsCycle path v terms)
 
--- the signal pc in a state: that of values which solve the equations of a cycle that begins in it
+-- the signal pc in a state: by values which solve the equations of a cycle that begins in that state
 abbrev pub PcIs : {S : Type 0} → SequentialPath S → Variant → List Term → S → ℕ → Type 0
 PcIs path v terms s pc = (f : ℕ → ℕ) × Solves path v terms s f × (path.pc s f ≡ pc)
 
--- a machine that tells a state at its signal pc
+-- the machine reported in a state, at its signal pc
 abbrev pub EndIs : {S : Type 0} → SequentialPath S → Variant → List Term → S → Machine → Type 0
 EndIs path v terms s end = (pc : ℕ) × PcIs path v terms s pc × (end ≡ machine_at path s pc)

@@ -7,7 +7,7 @@ use dp_signals::{SignalRows, at};
 use y86_base::{Flags, Image, Regs, Stat};
 use y86_isa::{Rec, Store, alu, data_store, put_store, write_back};
 
-/// The status of a cycle behind which a machine goes on.
+/// The status of a cycle after which a machine goes on.
 pub const AOK: u64 = 1;
 
 #[inline(always)]
@@ -38,7 +38,8 @@ fn flags_of(rows: &SignalRows, flags: Flags, values: &[u64]) -> Flags
     }
 }
 
-/// Writes what a cycle with these values writes, where its status is AOK: both destinations, that of valM last, the flags, and memory.
+/// Writes the results of a cycle with these values, if its status is AOK: both destinations (dstM last), the flags, and
+/// memory.
 #[inline(always)]
 pub fn update(
     rows: &SignalRows,
@@ -62,7 +63,7 @@ pub fn update(
     put_store(mem, store_of(rows, values));
 }
 
-/// The record of a cycle with these values at `pc`, that left these flags.
+/// The record of a cycle at `pc` with these values that left these flags.
 #[inline(always)]
 pub fn record_of(rows: &SignalRows, pc: u64, flags: Flags, values: &[u64]) -> Rec
     ensures { result ≡ spec.record_by rows.now pc flags (at values.now) }

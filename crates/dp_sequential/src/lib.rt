@@ -1,5 +1,5 @@
-//! Sequential datapaths (CS:APP 3e, sections 4.3 and 4.5.1): one instruction in each cycle, for any kind of state between cycles. The
-//! values of their signals, the end of a cycle, and their machines.
+//! Sequential datapaths (CS:APP 3e, sections 4.3 and 4.5.1): one instruction in each cycle, for any kind of state
+//! between cycles. The crate has the values of their signals, the end of a cycle, and their machines.
 #![tactic(auto)]
 
 mod cycle;

@@ -18,9 +18,9 @@ use y86_base::{Image, Variant};
 use y86_isa::Rec;
 use yis_run::End;
 
-/// A machine of a sequential datapath, whose table has N rows: a design with an order of its signals, an evaluator of the design, and the
-/// state that it is in. The values of its signals are kept from cycle to cycle, with the constants in their rows. `fits` is the
-/// evaluator's answer about the constants.
+/// A machine of a sequential datapath whose table has N rows: a design with an order of its signals, an evaluator of
+/// the design, and the current state. The values of its signals are kept from cycle to cycle, with the constants in
+/// their rows. `fits` says whether the evaluator's assumptions fit the constants.
 #[derive(Drop)]
 pub struct SequentialMachine<S: Sequential, C: SignalEval, const N: usize> {
     variant: Variant,
@@ -51,7 +51,8 @@ impl<S: Sequential, C: SignalEval, const N: usize> Model for SequentialMachine<S
 }
 
 impl<S: Sequential, C: SignalEval, const N: usize> SequentialMachine<S, C, N> {
-    /// A machine before its first cycle, with a memory image. The evaluator is one of the design. No memory is taken, here or later.
+    /// A machine before its first cycle, with a memory image. The evaluator must be one of the design. No memory is
+    /// allocated, here or later.
     pub fn new(
         variant: Variant,
         design: Design,
@@ -78,15 +79,15 @@ impl<S: Sequential, C: SignalEval, const N: usize> SequentialMachine<S, C, N> {
         }
     }
 
-    /// The state that it is in.
+    /// The current state.
     pub fn state(&self) -> &S
         ensures { result.now ≡ self.now.state }
     {
         &self.state
     }
 
-    /// Does one cycle, and answers its record. After a cycle whose status wasn't AOK the machine has stopped: nothing changes, and there is
-    /// no record.
+    /// Does one cycle, and returns its record. After a cycle whose status wasn't AOK the machine has stopped: nothing
+    /// changes, and there is no record.
     #[inline(always)]
     pub fn cycle(&mut self) -> Option<Rec>
         ensures cycle { IsCall S.path self.old result self.new }
@@ -113,8 +114,8 @@ impl<S: Sequential, C: SignalEval, const N: usize> SequentialMachine<S, C, N> {
         Some(record_of(&S::ROWS, pc, flags, &self.values))
     }
 
-    /// The signal pc in the state reached: the signals are evaluated anew. Of a machine that has stopped it is the PC of the cycle that
-    /// stopped it. The machine stays as it is; only its evaluator works, and its values are written.
+    /// The signal pc in the state reached, for which the signals are evaluated anew. After a stop it is the PC of the
+    /// cycle that stopped the machine. The state stays as it is; only the evaluator and the stored values change.
     pub fn pc(&mut self) -> u64
         ensures pc { PcIs S.path self.old.variant self.old.terms self.old.state result }
         ensures same { self.new ≡ self.old }
@@ -134,7 +135,8 @@ impl<S: Sequential, C: SignalEval, const N: usize> SequentialMachine<S, C, N> {
         self.state.pc(&self.values)
     }
 
-    /// How the machine ended, or stands: its registers, flags and memory, the status, and the PC that `pc` answers.
+    /// The state of the machine for a report: its registers, flags and memory, the status, and the PC that the method
+    /// `pc` returned.
     pub fn end(&self, pc: u64) -> End<'_>
         requires { PcIs S.path self.now.variant self.now.terms self.now.state pc }
         ensures { EndIs S.path self.now.variant self.now.terms self.now.state (ended result) }

@@ -13,10 +13,10 @@ use hcl_types::NameId;
 use y86_base::Image;
 use yis_run::End;
 
-/// A sequential datapath, by the type of its state as a cycle begins: what that holds of the instruction before is all in which one
-/// differs from another.
+/// A sequential datapath, by the type of its state as a cycle begins. Datapaths differ only in what this state holds of
+/// the previous instruction.
 pub trait Sequential: Drop {
-    /// Where its signals stand.
+    /// The rows of its signals.
     const ROWS: SignalRows;
 
     /// The first row that a file defines.
@@ -33,7 +33,7 @@ pub trait Sequential: Drop {
     fn start(mem: Image) -> Self
         ensures { result ≡ path.start mem };
 
-    /// What it has of a machine, at this PC.
+    /// The parts of a machine that the state holds, at this PC.
     fn view(&self, pc: u64) -> End<'_>
         ensures regs { result.regs.now ≡ path.regs self.now }
         ensures flags { result.flags ≡ path.flags self.now }
@@ -42,13 +42,13 @@ pub trait Sequential: Drop {
         ensures mem { result.mem.now ≡ path.mem self.now }
         ensures whole { ended result ≡ machine_at path self.now pc };
 
-    /// Puts the words that it holds into their rows, over values that begin with the constants.
+    /// Puts the words of the state into their rows. The values already begin with the constants.
     fn put_given(&self, values: &mut [u64])
         requires constants { Starts constants values.old }
         requires size { length values.old ≡ path.count }
         ensures { AreGivenIn path self.now values.new };
 
-    /// The PC at which a cycle that begins in it is likely to work.
+    /// The PC at which a cycle that begins in this state is likely to work.
     fn likely_pc(&self) -> u64;
 
     /// The PC at which a cycle with these values works.

@@ -31,7 +31,7 @@ pub fn constants_in<const N: usize>() -> [u64; N]
     values
 }
 
-/// The value of the hardware in a row, of what stands behind the decode stage.
+/// The value of the hardware in a row, for the stages from decode on.
 #[tactic(auto, unfolding(crate::specs::Cycle::worked_by))]
 #[inline(always)]
 fn worked(rows: &SignalRows, m: End<'_>, row: NameId, values: &[u64]) -> u64
@@ -61,7 +61,8 @@ fn worked(rows: &SignalRows, m: End<'_>, row: NameId, values: &[u64]) -> u64
     }
 }
 
-/// The value of the hardware in a row, of what is fetched behind the first byte, and of what stands behind it.
+/// The value of the hardware in a row: a field or word of the fetch stage after the first byte, or a row of a later
+/// stage.
 #[tactic(auto, unfolding(crate::specs::Cycle::fetched_by))]
 #[inline(always)]
 fn fetched(rows: &SignalRows, m: End<'_>, row: NameId, values: &[u64]) -> u64
@@ -89,8 +90,8 @@ fn fetched(rows: &SignalRows, m: End<'_>, row: NameId, values: &[u64]) -> u64
     }
 }
 
-/// The hardware in the state in which a cycle begins. It keeps what it read last in the instruction memory: `reading` is what stands at
-/// `pc`.
+/// The hardware in the state in which a cycle begins. It caches its last read of the instruction memory: `reading` is
+/// the instruction at `pc`.
 #[derive(Drop)]
 struct Units<'a, S: Sequential> {
     variant: Variant,
@@ -127,7 +128,7 @@ impl<'a, S: Sequential> Units<'a, S> {
         }
     }
 
-    /// What the bytes at `pc` read as.
+    /// How the bytes at `pc` decode.
     #[inline(always)]
     fn read(&mut self, pc: u64) -> Reading
         ensures read { result ≡ isa.reading self.old.variant (S.path.mem self.old.state) pc }
@@ -174,9 +175,9 @@ impl<'a, S: Sequential> Hardware for Units<'a, S> {
     }
 }
 
-/// The values of the signals in a cycle that begins in the state `s`, over the values of another cycle, where the constants stand already.
-/// They are computed along an order of the design, and take no memory. `fits` is the evaluator's answer about the constants, which is
-/// asked once for a run.
+/// The values of the signals in a cycle that begins in the state `s`. It reuses the values of another cycle, in which
+/// the constants are already set. The signals are computed in an order of the design, without allocating memory. `fits`
+/// says whether the evaluator's assumptions fit the constants; callers compute it once for a run.
 #[inline(always)]
 pub fn solve_in<S: Sequential, C: SignalEval>(
     variant: Variant,

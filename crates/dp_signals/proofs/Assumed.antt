@@ -1,4 +1,4 @@
--- Values that begin with given words, while rows behind those are written.
+-- Values that begin with given words keep them while later rows are written.
 use Rattle.std.proofs.Common.{◌≡◌, ℕ, zero, suc, ◌+◌, ◌-◌, ◌<◌, ◌≤◌, get_or, List, [], ◌∷◌, ◌++◌, length, map, take, drop, slice_set, refl, sym, ap, ◌∙◌, arith, length-append, length-set, length-drop}
 use Rattle.std.proofs.lemmas.List.{append_assoc, set-append_right, take-append-drop, length-take-le}
 use Rattle.std.specs.List.{AllByRecursion}
@@ -13,18 +13,18 @@ starts_more words xs ys h = (h.0 ++ ys, ap (λ zs. zs ++ ys) h.1 ∙ append_asso
 starts_short : (words xs : List ℕ) → Starts words xs → length words ≤ length xs
 starts_short words xs h = let sizes = ap length h.1 ∙ length-append words h.0 in omega (arith, sizes)
 
--- they stay while rows behind the words are written
+-- the words stay while rows after them are written
 pub starts_set : (words xs : List ℕ) (n w : ℕ) → Starts words xs → length words ≤ n → Starts words (slice_set xs n w)
 starts_set words xs n w h le =
     (slice_set h.0 (n - length words) w, ap (λ ys. slice_set ys n w) h.1 ∙ set-append_right words h.0 (length words) n w refl le)
 
--- words with which the constants begin may be assumed of all values over what is given
+-- words with which the constants begin may be assumed for all values that begin with the given ones
 pub may_assume : (words constants state given rest values : List ℕ) → Starts words constants → given ≡ constants ++ state → values ≡ given ++ rest → MayAssume words given values
 may_assume words constants state given rest values h e k =
     let first : Starts words given = rw e (starts_more words constants state h) in
     (rw k (starts_more words given rest first), starts_short words given first)
 
--- ---- what is given stays while rows are computed
+-- ---- the given values stay while rows are computed
 
 pub over_set : (given : List ℕ) (rows : ℕ) (xs : List ℕ) (n w : ℕ) → IsOver given rows xs → length given ≤ n → IsOver given rows (slice_set xs n w)
 over_set given rows xs n w h le = (
@@ -48,7 +48,7 @@ put_words n (w ∷ ws) xs = put_words (n + 1) ws (slice_set xs n w)
 none_left : (n : ℕ) → n - n ≡ 0
 none_left n = omega arith
 
--- so many rows behind others
+-- words put after a front, over a middle of the same length
 put_behind : (front ws middle rest : List ℕ) → length middle ≡ length ws → put_words (length front) ws (front ++ (middle ++ rest)) ≡ front ++ (ws ++ rest)
 put_behind front [] [] rest e = refl
 put_behind front [] (m ∷ middle) rest e = absurd (omega (arith, e))
@@ -63,7 +63,7 @@ put_behind front (w ∷ ws) (m ∷ middle) rest e =
     ∙ put_behind (front ++ (w ∷ [])) ws middle rest (omega (arith, e))
     ∙ append_assoc front (w ∷ []) (ws ++ rest)
 
--- the words of a state that are put behind the constants
+-- the words of a state, put after the constants
 pub put_given : (first ws xs : List ℕ) (rows : ℕ) → Starts first xs → length xs ≡ length first + length ws + rows → IsOver (first ++ ws) rows (put_words (length first) ws xs)
 put_given first ws xs rows h size =
     let sizes = ap length h.1 ∙ length-append first h.0 in
@@ -75,7 +75,7 @@ put_given first ws xs rows h size =
       ap (put_words (length first) ws) split ∙ put_behind first ws (take k h.0) (drop k h.0) middle ∙ sym (append_assoc first ws (drop k h.0)),
     )
 
--- ---- a row that is computed stands behind what is given
+-- ---- a row that is computed comes after the given ones
 
 pub computed_behind : (given first : ℕ) (terms : List Term) (rows : ℕ) (ids : List ℕ) (n : ℕ) → n < length ids →
     AllByRecursion (λ id. IsComputed given first terms rows id) ids → given ≤ get_or ids n 0

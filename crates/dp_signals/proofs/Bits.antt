@@ -1,4 +1,4 @@
--- Truths as words, and how many rows are constants.
+-- Truths as words, and the number of rows that are constants.
 use Rattle.std.proofs.Common.{◌≡◌, ◌<◌, Bool, true, false, length, refl, arith}
 use Rattle.y86_base.specs.Words.{set}
 use Rattle.dp_signals.specs.PipeEquations.{constants}
@@ -10,7 +10,7 @@ pub bit_lt : (b : Bool) → bit b < 2
 bit_lt true = omega arith
 bit_lt false = omega arith
 
--- and holds where the truth does
+-- and the word is true exactly if the truth is
 pub set_bit : (b : Bool) → set (bit b) ≡ b
 set_bit true = refl
 set_bit false = refl

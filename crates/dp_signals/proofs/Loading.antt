@@ -15,7 +15,7 @@ neither : (a b : Bool) → (a || b) ≡ false → (a ≡ false) × (b ≡ false)
 neither true b h = absurd (grind (arith, h))
 neither false b h = (refl, h)
 
--- the machine goes on, and nothing is asked of a register
+-- the machine goes on, and no register is to be stalled or bubbled
 record IsQuiet (f : ℕ → ℕ) : Type 0 where
   pub goes : (f row.Stat == 1) ≡ true
   pub f_stall : set (f row.F_stall) ≡ false
@@ -55,7 +55,7 @@ quiet f h =
       w_bubble = of_w.1;
     }
 
--- what the cycle leaves is what each register loads
+-- after the cycle, each register holds what it loads
 pub next_loading : (p : PipeState) (f : ℕ → ℕ) → all_load f ≡ true → next p f ≡ loaded p f
 unfolding next updates_of
 next_loading p f h = let q = quiet f h in rw (q.goes, q.f_stall, q.f_bubble, q.d_stall, q.d_bubble, q.e_stall, q.e_bubble, q.m_stall, q.m_bubble, q.w_stall, q.w_bubble) refl

@@ -1,10 +1,10 @@
--- Where the signals of a sequential datapath stand in its table.
+-- The rows that the signals of a sequential datapath have in its table.
 use Rattle.std.specs.Prelude.{ℕ, ◌+◌}
 use Rattle.dp_signals.specs.SeqNames as signal
 use Rattle.dp_signals.specs.declared.sequential_rows.SignalRows.{SignalRows}
 
--- the rows of a table where pc stands in a row of its own, and what hardware computes and what a file defines of the instruction stand
--- one behind the other, from these rows on
+-- the rows of a table in which pc has a row of its own, the hardware's rows follow one another from hardware on, and
+-- the defined rows of the instruction's control follow one another from control on
 abbrev pub rows_from : ℕ → ℕ → ℕ → SignalRows
 rows_from pc hardware control =
     record {
@@ -42,6 +42,6 @@ rows_from pc hardware control =
       stat = control + 17;
     }
 
--- those of SEQ
+-- the rows of SEQ's signals
 abbrev pub seq : SignalRows
 seq = rows_from signal.pc signal.hardware signal.defined

@@ -6,7 +6,8 @@ use Rattle.hcl_types.specs.declared.table.Row.{Row}
 use Rattle.dp_signals.specs.Tables.{constant_rows, signal, signals}
 use Rattle.dp_signals.specs.declared.sequential_rows.SignalRows.{SignalRows}
 
--- what hardware computes, with the rows that it depends on: what is read behind the first byte depends on these rows too
+-- the signals that hardware computes, with the rows on which they depend: everything that is read after the first byte
+-- also depends on the rows in pc
 abbrev pub hardware_rows : SignalRows → List ℕ → List Row
 hardware_rows r pc =
     signal Code (Hardware (r.pc ∷ [])) (codes "imem_icode") ∷
@@ -23,7 +24,7 @@ hardware_rows r pc =
     signal Value (Hardware (r.mem_addr ∷ r.mem_read ∷ [])) (codes "valM") ∷
     signal Truth (Hardware (r.mem_addr ∷ r.mem_read ∷ r.mem_write ∷ [])) (codes "dmem_error") ∷ []
 
--- what the HCL file defines of the instruction
+-- the instruction's control, which the HCL file defines
 unfoldable pub control_rows : List Row
 control_rows =
     signals Code Defined (codes "icode" ∷ codes "ifun" ∷ []) ++
@@ -37,7 +38,7 @@ control_rows =
     signals Value Defined (codes "mem_data" ∷ []) ++
     signals Code Defined (codes "Stat" ∷ [])
 
--- a table: the constants, what the state holds, what hardware computes, and what a file defines: what stands before the control of the
--- instruction, that control, and what stands behind it
+-- a table: the constants, the state's rows, hardware's rows, and the rows that a file defines: those before the control
+-- of the instruction, that control, and those after it
 abbrev pub table_of : List Row → List Row → List Row → List Row → List Row
 table_of held hardware before behind = constant_rows ++ (held ++ (hardware ++ (before ++ (control_rows ++ behind))))

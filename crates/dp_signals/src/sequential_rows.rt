@@ -1,4 +1,4 @@
-//! Where the signals of a sequential datapath stand in its table.
+//! The rows that the signals of a sequential datapath have in its table.
 use crate::seq_row;
 use hcl_types::NameId;
 
@@ -39,8 +39,8 @@ pub struct SignalRows {
     pub stat: NameId,
 }
 
-/// The rows of a table where `pc` stands in a row of its own, and what hardware computes and what a file defines of the instruction stand
-/// one behind the other, from these rows on.
+/// The rows of a table in which `pc` has a row of its own, the hardware's rows follow one another from `hardware` on,
+/// and the defined rows of the instruction's control follow one another from `control` on.
 #[macro_export]
 macro_rules! signal_rows {
     ($pc:expr, $hardware:expr, $control:expr) => {

@@ -8,8 +8,8 @@ use hcl_types::{Class, Row, Table};
 use std::alloc::Global;
 use y86_base::{Items, Memory};
 
-/// The lines of what hardware computes, by the rows of a table. What is read behind the first byte of an instruction depends on the rows
-/// in brackets too.
+/// The lines for what hardware computes, in a table with the rows `$rows`. The fields that are read after an
+/// instruction's first byte also depend on the rows in brackets.
 #[macro_export]
 macro_rules! hardware_lines {
     ($rows:expr, [$($pc:expr),*]) => {
@@ -52,7 +52,7 @@ static CONTROL: &[TableRow] = &[
     TableRow(b"Stat", Class::Code, RowSource::Defined),
 ];
 
-/// Adds the rows of what a file defines of the instruction.
+/// Adds the rows that a file defines for the instruction's control.
 #[tactic(auto, unfolding(crate::specs::SequentialTables::control_rows))]
 fn put_control(alloc: Global, rows: &mut Vec<Row>) -> Result<(), Memory>
     ensures { OnOk result (rows.new.items ≡ rows.old.items ++ spec.control_rows) }
@@ -60,8 +60,8 @@ fn put_control(alloc: Global, rows: &mut Vec<Row>) -> Result<(), Memory>
     put_lines(alloc, rows, CONTROL)
 }
 
-/// The table of a sequential datapath: the constants, what the state holds, what hardware computes, and what a file defines before the
-/// control of the instruction, of it, and behind it.
+/// The table of a sequential datapath: the constants, the signals of the state, those that hardware computes, and those
+/// that a file defines: the ones before the instruction's control, the control, and the ones after it.
 pub fn sequential_table(
     alloc: Global,
     held: &[TableRow],

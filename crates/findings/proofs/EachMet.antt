@@ -1,4 +1,4 @@
--- Lists of requirements that are met one by one, and lists of what is false.
+-- Lists of requirements that are met one by one, and lists of which no element passes a test.
 use Rattle.std.proofs.Common.{◌≡◌, ℕ, Bool, true, false, not, ◌&&◌, ◌||◌, ◌==◌, List, [], ◌∷◌, ◌++◌, map, Option, Some, None, if◌then◌else◌, refl, sym, ap, ◌∙◌, subst, arith}
 use Rattle.std.proofs.lemmas.Bool.Decides.{nat_tests}
 use Rattle.std.proofs.lemmas.Bool.{or_parts}
@@ -51,29 +51,29 @@ pub some_is : (α : Assignment) (cv : ℕ → Leaf) (name : ℕ) (o : Option Lea
 some_is α cv name None = refl
 some_is α cv name (Some leaf) = one (picks_leaf cv name leaf)
 
--- findings are right exactly where each requirement is met
+-- findings are right exactly if each requirement is met
 pub findings_right : (defined : ℕ) (terms : List Term) (α : Assignment) (cv : ℕ → Leaf) (all : List Requirement) → are_right (map (finding defined terms α cv) all) ≡ each (is_met α cv) all
 findings_right defined terms α cv [] = refl
 findings_right defined terms α cv (x ∷ xs) = ap (λ b. is_met α cv x && b) (findings_right defined terms α cv xs)
 
--- an obligation that is false at a valuation of which it is asked
+-- an obligation that is false at a valuation at which it is demanded
 pub demand_false : (b d : Bool) → (not b || d) ≡ false → d ≡ false
 demand_false true d e = e
 demand_false false d e = cc
 
--- the atoms of a design are apart, so bits give each its truth
+-- a design's list has no atom twice, so bits give each its truth
 pub atoms_given : (rows : List Row) (terms : List Term) (ids : List ℕ) (atoms : List Atom) (first : ℕ) (w : List Bool) → IsOrderOf rows terms ids → AreAtoms rows terms atoms → AtomsAre atoms first w (assigned atoms first w)
 atoms_given rows terms ids atoms first w order are =
     let found = leaves_exist rows terms ids order in
     given_atoms atoms first w (subst IsApart (sym (are.are found.0 found.1)) (apart found.0 terms))
 
--- ---- lists of what is false
+-- ---- lists of which no element passes a test
 
 neither : (a b : Bool) → a ≡ false → b ≡ false → (a || b) ≡ false
 neither true b e f = cc
 neither false b e f = f
 
--- none of a longer list
+-- no element of a longer list passes
 pub none_of : {A : Type 0} (f : A → Bool) (xs : List A) (x : A) → some f (xs ++ x ∷ []) ≡ false → (some f xs ≡ false) × (f x ≡ false)
 none_of f [] x e = (refl, (or_parts (f x) false e).0)
 none_of f (y ∷ ys) x e =

@@ -1,4 +1,4 @@
--- What is found of signals at a valuation. The definitions are those of the rows from a first one on.
+-- Findings on signals at a valuation. The definitions are those of the rows from a first one on.
 use Rattle.std.specs.Prelude.{ℕ, ◌-◌, Bool, List, Option, slice_get}
 use Rattle.std.specs.Option.{option_and_then}
 use Rattle.hcl_types.specs.Lists.{each}
@@ -14,7 +14,7 @@ use Rattle.findings.specs.declared.requirement.Requirement.{Requirement}
 abbrev pub case_of : ℕ → List Term → Assignment → (ℕ → Leaf) → ℕ → Option ℕ
 case_of defined terms α cv id = option_and_then (taken α cv) (slice_get terms (id - defined))
 
--- a signal: what is required of it, what the file picks, whether that is right, and by which case
+-- what a requirement demands of a signal, what the file picks, whether that is right, and by which case
 abbrev pub finding : ℕ → List Term → Assignment → (ℕ → Leaf) → Requirement → Finding
 finding defined terms α cv requirement = record {
   requirement = requirement;

@@ -8,7 +8,7 @@ use Rattle.findings.specs.declared.requirement.Requirement.{Requirement}
 use Rattle.findings.specs.declared.requirement.Wanted.{Wanted}
 use Rattle.findings.specs.declared.requirement.Wanted.TheVariants as wanted
 
--- whether a signal meets what is wanted of it
+-- whether a signal has the wanted value
 abbrev pub meets : Assignment → (ℕ → Leaf) → ℕ → Wanted → Bool
 meets α cv name (wanted.Word leaf) = picks_leaf cv name leaf
 meets α cv name (wanted.Truth b) = is_truth α cv name b

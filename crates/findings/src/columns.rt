@@ -1,4 +1,4 @@
-//! What the columns of the instruction table say of numbers.
+//! The columns of the instruction table, applied to numbers.
 ghost use Rattle.std.specs.Prelude.{◌≡◌};
 ghost use Rattle.y86_base.specs.Stat.{stat_number};
 ghost use Rattle.y86_base.specs.Words as words;
@@ -25,7 +25,7 @@ pub fn register_number(column: RegisterColumn, r_a: u64, r_b: u64) -> u64
     }
 }
 
-/// The number of the status of what was read.
+/// The number of the status that fetch finds.
 pub fn fetched_status(error: bool, icode: u64) -> u64
     ensures { result ≡ stat_number (blocks.fetch_status error icode) }
 {

@@ -1,4 +1,4 @@
-//! What is found of signals at a valuation.
+//! Findings: what the file picks for a signal at a valuation, and whether that is right.
 ghost use Rattle.std.specs.Prelude.{◌≡◌, ◌≤◌, ◌++◌, ◌∷◌, [], ◌-◌, IfOk, OnOk, map, slice_get};
 ghost use Rattle.control_values.specs.Given.{assigned, at};
 ghost use Rattle.ctl_atoms.specs.Leaves.{leaf_holds};
@@ -13,7 +13,7 @@ use hcl_types::{NameId, Term};
 use std::alloc::Global;
 use y86_base::Memory;
 
-/// A signal: what is required of it, what the file picks, and whether that is right.
+/// What a requirement demands of a signal, what the file picks, and whether that is right.
 #[derive(Clone, Copy)]
 pub struct Finding {
     pub requirement: Requirement,
@@ -40,7 +40,6 @@ pub fn is_number(leaves: &[Leaf], n: NameId, number: u64) -> bool
     same_leaf(leaf_at(leaves, n), Leaf::Number(number))
 }
 
-/// Whether a signal meets a requirement.
 fn meets(scope: &Scope<'_>, requirement: Requirement) -> bool
     requires { scope.now.first ≤ 1000 }
     ensures { result ≡ is_met (assigned scope.now.atoms.now scope.now.first scope.now.bits.now) (at scope.now.leaves.now) requirement }
@@ -52,7 +51,7 @@ fn meets(scope: &Scope<'_>, requirement: Requirement) -> bool
     }
 }
 
-/// The case that the definition of a signal takes, where the definitions are those of the rows from a first one on.
+/// The case that the definition of a signal takes. The definitions are those of the rows from `defined` on.
 fn case_of(scope: &Scope<'_>, terms: &[Term], defined: NameId, id: NameId) -> Option<usize>
     requires { scope.now.first ≤ 1000 }
     ensures { result ≡ spec.case_of defined terms.now (assigned scope.now.atoms.now scope.now.first scope.now.bits.now) (at scope.now.leaves.now) id }
@@ -63,7 +62,6 @@ fn case_of(scope: &Scope<'_>, terms: &[Term], defined: NameId, id: NameId) -> Op
     }
 }
 
-/// The finding on a requirement.
 fn finding_of(
     scope: &Scope<'_>,
     terms: &[Term],

@@ -1,4 +1,4 @@
-//! What obligations require of signals, as data, and what is found of the signals at one valuation.
+//! What obligations require of signals, as data, and the findings on the signals at one valuation.
 //!
 //! A requirement names a signal and what it has to be. A finding says what the file picks for the signal, by which
 //! case of its definition, and whether that is right.

@@ -6,18 +6,18 @@ use ctl_atoms::Leaf;
 use hcl_types::NameId;
 use y86_base::Memory;
 
-/// What a signal has to be.
+/// The value that a signal has to have.
 #[derive(Clone, Copy, Debug, PartialEq, Eq)]
 pub enum Wanted {
     /// This name, or this number.
     Word(Leaf),
     /// A truth.
     Truth(bool),
-    /// Nothing is right: the value isn't there yet, and the instruction that needs it has to wait.
+    /// No value is right: it isn't available yet, and the instruction that needs it has to wait.
     Nothing,
 }
 
-/// A signal, and what it has to be.
+/// A signal, and the value that it has to have.
 #[derive(Clone, Copy, Debug, PartialEq, Eq)]
 pub struct Requirement {
     pub signal: NameId,
@@ -34,14 +34,14 @@ pub fn put(out: &mut Vec<Requirement>, signal: NameId, wanted: Wanted) -> Result
     }
 }
 
-/// Puts: the signal picks a leaf.
+/// Appends the requirement that the signal picks a leaf.
 pub fn put_word(out: &mut Vec<Requirement>, signal: NameId, leaf: Leaf) -> Result<(), Memory>
     ensures { OnOk result (out.new.items ≡ out.old.items ++ spec.word signal leaf) }
 {
     put(out, signal, Wanted::Word(leaf))
 }
 
-/// Puts: the signal picks a leaf, if there is one.
+/// Appends the requirement that the signal picks a leaf, if there is one.
 pub fn put_some(
     out: &mut Vec<Requirement>,
     signal: NameId,
@@ -55,14 +55,14 @@ pub fn put_some(
     }
 }
 
-/// Puts: the signal picks a number.
+/// Appends the requirement that the signal picks a number.
 pub fn put_number(out: &mut Vec<Requirement>, signal: NameId, number: u64) -> Result<(), Memory>
     ensures { OnOk result (out.new.items ≡ out.old.items ++ spec.number signal number) }
 {
     put_word(out, signal, Leaf::Number(number))
 }
 
-/// Puts: the signal is a truth.
+/// Appends the requirement that the signal has this truth.
 pub fn put_truth(out: &mut Vec<Requirement>, signal: NameId, truth: bool) -> Result<(), Memory>
     ensures { OnOk result (out.new.items ≡ out.old.items ++ spec.truth signal truth) }
 {

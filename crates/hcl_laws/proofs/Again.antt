@@ -1,4 +1,4 @@
--- What is printed is read again, as the same tree and with the same names.
+-- A printed file is read again as the same tree, with the same names.
 use Rattle.std.proofs.Common.{◌≡◌, ◌≤◌, sym, subst, ℕ, zero, suc, Bool, true, false, cond, List, [], ◌∷◌, map, refl, inl, inr, arith, le_refl, le_trans, suc-le-suc, not-suc-le-zero, nat_lt, zero-le, le_of_lt, lit≤}
 use Rattle.std.specs.Prelude.{◌⊎◌}
 use Rattle.std.proofs.lemmas.Bool.Decides.{nat_tests}
@@ -47,7 +47,7 @@ down (suc r) m d ts e rest le h = go (last r m le) (λ l. down r m d ts e rest l
 abbrev pub Own : ℕ → Expr → Type 0
 Own d e = (rest : List Token) → ByRank (said e).rank d ((said e).put rest) e rest
 
--- at each depth up to this one it is read where a rank is asked for; with parentheses, where its own is less
+-- the expression is read at each depth up to d; if its rank is below m, also one level deeper, as within parentheses
 abbrev pub Fine : ℕ → ℕ → Expr → Type 0
 Fine m d e = (d0 : ℕ) → d0 ≤ d → Own d0 e × (nat_lt (said e).rank m ≡ true → Own (suc d0) e × (suc d0 ≤ 64))
 
@@ -121,7 +121,7 @@ fine_and d e (x ∷ es) f more =
     fine_as 1 d 1 (expr.And (e ∷ x ∷ es)) _ (said_And (e ∷ x ∷ es)) refl
     (λ d0 le rest. and_list (reads_at 2 d d0 e (lit≤ tt) le f (put_further AndAnd 2 (map said (x ∷ es)) rest)) (and_tail_reads d d0 le (x ∷ es) more rest))
 
--- a bracket that stood at a depth may stand at any lesser one
+-- a bracket that is allowed at a depth is allowed at any lesser depth
 room_at : (d d0 : ℕ) (t : Token) (ts ts' : List Token) → d0 ≤ d → Room 0 (suc d) (t ∷ ts) → Room 0 (suc d0) (t ∷ ts')
 room_at d d0 t ts ts' le (inl h) = inl (le_trans (suc-le-suc le) h)
 room_at d d0 t ts ts' le (inr h) = absurd (not-suc-le-zero h)
@@ -170,7 +170,7 @@ fine_case d b bs ts room f more =
     (λ d0 le rest. case_list (room_at d d0 OpenBracket ts _ le room) (f (suc d0) (suc-le-suc le) (put_branches (map said_branch bs) (CloseBracket ∷ rest)))
     (case_tail_reads (suc d) (suc d0) (suc-le-suc le) bs more (CloseBracket ∷ rest)))
 
--- parentheses of the source are left out or stand again
+-- parentheses of the source are left out or printed again
 fine_group : (d : ℕ) (e : Expr) (ts : List Token) → Room 0 (suc d) (OpenParen ∷ ts) → Fine 0 (suc d) e → Fine 4 d e
 fine_group d e ts room f d0 le =
     ((f d0 (le_trans le (le_of_lt (le_refl (suc d))))).0, λ under. ((f (suc d0) (suc-le-suc le)).0, le_trans (suc-le-suc le) (within_64 d OpenParen ts room)))

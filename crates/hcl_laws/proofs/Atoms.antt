@@ -1,4 +1,4 @@
--- A design that has an order has one list of atoms at most, or one reason why it has none.
+-- A design that has an order has at most one list of atoms, or one reason why it has none.
 use Rattle.std.proofs.Common.{◌≡◌, ◌⊎◌, ⊎_elim, ℕ, zero, suc, ◌<◌, ◌≤◌, Bool, true, false, List, length, refl, sym, ap, ◌∙◌, subst, inl, inr, arith}
 use Rattle.std.proofs.lemmas.Bool.{cases_lt}
 use Rattle.hcl_types.specs.Equations.{IsSolution}

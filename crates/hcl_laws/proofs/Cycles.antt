@@ -1,9 +1,9 @@
--- At most one cycle is the first.
+-- There is at most one first cycle.
 use Rattle.std.proofs.Common.{◌≡◌, ◌⊎◌, ℕ, ◌<◌, ◌≤◌, List, [], ◌∷◌, length, refl, sym, subst, inl, inr, arith}
 use Rattle.hcl_order.specs.Dependence.{Depends, FirstCycle, IsFirstCycle, IsNoLater, IsDependencePath}
 use Rattle.hcl_order.proofs.Members.{le_or}
 
--- of lists as long as each other that come no later than one another
+-- two lists of the same length, each of which comes no later than the other, are equal
 no_later_both : (xs ys : List ℕ) → length xs ≡ length ys → IsNoLater xs ys → IsNoLater ys xs → xs ≡ ys
 no_later_both [] [] e h k = refl
 no_later_both [] (y ∷ ys) e h k = absurd k

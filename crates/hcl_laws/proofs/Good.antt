@@ -1,4 +1,4 @@
--- The words, numbers and quoted texts among the tokens of a text are such that they can be written again.
+-- The words, numbers and quoted texts among the tokens of a text can be written again.
 use Rattle.std.proofs.Common.{◌≡◌, ◌<◌, ◌-◌, ◌^◌, ◌%◌, ap, sym, subst, ◌∙◌, ℕ, zero, suc, Bool, true, false, cond, List, [], ◌∷◌, ◌++◌, length, drop, map, refl, arith, Option, Some, None, take_while, nat_eq, not-suc-le-zero, mod-lt, lit<}
 use Rattle.std.specs.Prelude.{nat_le, ◌==◌, ◌&&◌, unwrap_or}
 use Rattle.std.specs.List.{list_all, starts_with}

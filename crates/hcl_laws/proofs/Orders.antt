@@ -1,4 +1,5 @@
--- Where no row depends on itself there is an order of the rows: a row that isn't done and needs only what is done comes next.
+-- If no row depends on itself, the rows have an order: the next row is one that isn't done and needs only rows that are
+-- done.
 use Rattle.std.proofs.Common.{◌≡◌, ◌⊎◌, ℕ, zero, suc, ◌+◌, ◌<◌, ◌≤◌, Bool, true, false, List, [], ◌∷◌, ◌++◌, length, set, refl, sym, ap, ◌∙◌, subst, inl, inr, arith, add-one}
 use Rattle.std.proofs.lemmas.List.{get_or_past}
 use Rattle.hcl_types.specs.Equations.{IsTopologicalOrder, is_known, needs_of}
@@ -35,7 +36,7 @@ record Next (rows : List (List ℕ)) (done : List Bool) : Type 0 where
   fewer : undone (set done row true) < undone done
 
 module _ (rows : List (List ℕ)) (start : List Bool) (inside : IsWithin rows) (acyclic : (n : ℕ) → Depends (needs_of rows) n n → ⊥) where
-  -- a row that comes next among the first ones, or none of them does
+  -- a next row among the first n, or none of them is one
   next : (done : List Bool) → length done ≡ length rows → (n : ℕ) → n ≤ length rows → Next rows done ⊎ IsPassed (needs_of rows) n done done false
   next done size zero h = inr (passed_none (needs_of rows) done)
   next done size (suc n) h = by (next done size n (omega (arith, h))) (is_known done n) refl (all_done done (needs_of rows n))
@@ -49,7 +50,7 @@ module _ (rows : List (List ℕ)) (start : List Bool) (inside : IsWithin rows) (
           let hit = passed_hit (needs_of rows) n done done (set done n true) false p (omega (arith, size, h)) e refl in
           inl (record { row = n; inside = omega (arith, h); waits = e; ready = all; fewer = hit.fewer refl })
 
-  -- where none comes next all are done
+  -- if there is no next row, all are done
   all_known : (done : List Bool) → length done ≡ length rows → IsPassed (needs_of rows) (length rows) done done false → (n : ℕ) → is_known done n ≡ true
   all_known done size p n = by (is_known done n) refl (le_or (length rows) n)
     where
@@ -58,7 +59,7 @@ module _ (rows : List (List ℕ)) (start : List Bool) (inside : IsWithin rows) (
       by false e (inl past) = get_or_past done n true (omega (arith, size, past))
       by false e (inr lt) = let stuck = arranges_stuck rows done done inside p n lt e in absurd (acyclic stuck.0 stuck.1)
 
-  -- from where at most so many rows aren't done an order is reached
+  -- an order is reached from any point at which at most fuel rows aren't done
   abbrev Reaches : ℕ → Type 0
   Reaches fuel = (done : List Bool) (ids : List ℕ) → IsArranged rows start done ids → undone done ≤ fuel → (order : List ℕ) × IsTopologicalOrder rows start order
 

@@ -1,4 +1,4 @@
--- The tokens of what is printed; a file that was printed is read again.
+-- The tokens of a printed file, and that a printed file is read again.
 use Rattle.std.proofs.Common.{◌≡◌, ◌<◌, ◌≤◌, ◌^◌, ap, sym, subst, ◌∙◌, ℕ, Bool, true, false, cond, List, [], ◌∷◌, ◌++◌, length, map, refl, nat_lt, append_assoc, codes, not-suc-le-zero, arith}
 use Rattle.std.specs.Prelude.{◌==◌}
 use Rattle.std.specs.List.{list_all}
@@ -29,7 +29,7 @@ use Rattle.hcl_laws.proofs.Again.{items_again, said_branch_is}
 use Rattle.hcl_laws.proofs.Good.{Good, AllGood, good_tokens}
 use Rattle.hcl_laws.proofs.Spelled.{Ends, space, line_feed, open_paren, close_paren, open_brace, close_brace, open_bracket, close_bracket, semicolon, comma, colon, assign, bang, or_or, and_and, compare, word_step, quoted_step, signed_step, signed_begins, nothing_left}
 
--- a text begins, and not with `=`
+-- a text that isn't empty and doesn't begin with `=`
 abbrev Starts : List ℕ → Type 0
 Starts text = (x : ℕ) × (xs : List ℕ) × (text ≡ x ∷ xs) × ((x == 61) ≡ false)
 
@@ -342,7 +342,7 @@ unfolding printed put_items
 items_spell no_item good = nothing_left
 items_spell (more_items {i = i} {is = is} h t) good = item_spells h good (printed is) ∙ ap (put_item i) (items_spell t (item_rest h good))
 
--- ---- a file that was printed is read again
+-- ---- a printed file is read again
 
 pub printed_again : (text : List ℕ) (f : File) → ReadsAs text f → ReadsAs (printed f.items) f
 printed_again text f a =

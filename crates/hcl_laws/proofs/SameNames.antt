@@ -1,4 +1,4 @@
--- What is printed has the names of the text that was read.
+-- A printed file has the names of the text that was read.
 use Rattle.std.proofs.Common.{◌≡◌, sym, subst, ℕ, Bool, true, false, cond, List, [], ◌∷◌, map, refl, nat_lt, not-suc-le-zero}
 use Rattle.hcl_tree.specs.declared.tree.Branch.{Branch}
 use Rattle.hcl_tree.specs.declared.tree.Expr.{Expr}
@@ -11,7 +11,7 @@ use Rattle.hcl_read.specs.Fault.{noted, noted_all}
 use Rattle.hcl_laws.proofs.Again.{said_branch_is}
 use Rattle.hcl_laws.proofs.Said.{Said, said_as, put_within, put_further, put_joined, put_branches, said, said_branch, said_Num, said_Name, said_Not, said_And, said_Or, said_Cmp, said_In, said_Case, put_item, put_items}
 
--- two texts have the same names, whatever was met before
+-- two texts have the same names, whatever names came before
 abbrev pub Same : List Token → List Token → Type 0
 Same ts ts' = (names : List (List ℕ)) → noted_all names ts ≡ noted_all names ts'
 
@@ -20,7 +20,7 @@ same_token : (t : Token) (ts ts' : List Token) → Same ts ts' → Same (t ∷ t
 unfolding noted_all
 same_token t ts ts' s names = s (noted names t)
 
--- a piece of text in front of `rest` has the names of what is put in front of another
+-- if rest' has the names of rest, then what put makes of rest' has the names of ts
 abbrev Keeps : (List Token → List Token) → List Token → List Token → Type 0
 Keeps put ts rest = (rest' : List Token) → Same rest rest' → Same ts (put rest')
 
@@ -35,7 +35,7 @@ within_keeps m e ts rest k rest' s = go (nat_lt (said e).rank m)
     go true names = k (CloseParen ∷ rest') s names
     go false names = k rest' s names
 
--- parentheses of the source hold no names
+-- parentheses of the source have no names
 group_keeps : (e : Expr) (ts rest : List Token) → Keeps (said e).put ts (CloseParen ∷ rest) → Keeps (said e).put (OpenParen ∷ ts) rest
 unfolding noted noted_all
 group_keeps e ts rest k rest' s names = k rest' s names

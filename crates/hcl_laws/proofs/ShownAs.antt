@@ -1,4 +1,4 @@
--- What is shown of an expression, variant by variant.
+-- The printed form of an expression, variant by variant.
 use Rattle.std.proofs.Common.{◌≡◌, ap, sym, ◌∙◌, ℕ, List, ◌++◌, map, codes}
 use Rattle.hcl_tree.specs.declared.tree.CmpOp.{CmpOp}
 use Rattle.hcl_tree.specs.declared.tree.Branch.{Branch, fold_out-Branch}

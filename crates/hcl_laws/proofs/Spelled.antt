@@ -21,11 +21,11 @@ use Rattle.hcl_read.specs.Tokens.{is_quoted, skipped, word, in_range, number_or,
 use Rattle.hcl_print.specs.Print.{operator}
 use Rattle.hcl_read.proofs.Items.{listed, items_ended, items_first, items_listed}
 
--- no word or number goes on in this text
+-- this text doesn't continue a word or a number
 abbrev pub Ends : List ℕ → Type 0
 Ends text = begins is_name_byte text ≡ false
 
--- one token, where the text begins with it
+-- the first token of a text
 pub tokens_step : (byte : ℕ) (bytes : List ℕ) → skipped false (byte ∷ bytes) ≡ byte ∷ bytes → tokens (byte ∷ bytes) ≡ (token byte bytes).0 ∷ tokens (token byte bytes).1
 tokens_step byte bytes e = ap (map (λ (item : Token × List ℕ). item.0)) (items_first (byte ∷ bytes) byte bytes e)
 
@@ -80,7 +80,7 @@ pub colon : (bytes : List ℕ) → tokens (58 ∷ bytes) ≡ Colon ∷ tokens by
 unfolding skipped token decimal_at keyword_at
 colon bytes = symbol_step 58 bytes Colon refl refl
 
--- `=` of a definition, with a blank behind it
+-- `=` of a definition, with a blank after it
 pub assign : (bytes : List ℕ) → tokens (61 ∷ 32 ∷ bytes) ≡ Assign ∷ tokens bytes
 unfolding skipped token decimal_at keyword_at
 assign bytes = symbol_step 61 (32 ∷ bytes) Assign refl refl ∙ ap (λ ts. Assign ∷ ts) (space bytes)
@@ -95,7 +95,7 @@ pub bang : (byte : ℕ) (bytes : List ℕ) → (byte == 61) ≡ false → tokens
 unfolding skipped token decimal_at keyword_at
 bang byte bytes e = symbol_step 33 (byte ∷ bytes) Bang refl (ap (λ b. unwrap_or (cond b (Some (Compare Ne, bytes)) None) (Bang, byte ∷ bytes)) (not_equals byte bytes e))
 
--- a token with the text behind it
+-- a token with the text after it
 step_to : (byte : ℕ) (bytes : List ℕ) (t : Token) (rest : List ℕ) → skipped false (byte ∷ bytes) ≡ byte ∷ bytes → token byte bytes ≡ (t, rest) → tokens (byte ∷ bytes) ≡ t ∷ tokens rest
 step_to byte bytes t rest e f = tokens_step byte bytes e ∙ ap (λ (x : Token × List ℕ). x.0 ∷ tokens x.1) f
 
@@ -126,7 +126,7 @@ kept byte bytes e f =
 letter_shows : (byte : ℕ) → is_letter byte ≡ true → ((byte == 35) ≡ false) × ((is_blank byte || is_line_feed byte) ≡ false)
 letter_shows byte e = (grind (arith, nat_tests), grind (arith, nat_tests))
 
--- a word, where it begins with a letter
+-- a word that begins with a letter
 pub word_step : (name rest : List ℕ) → begins is_letter name ≡ true → list_all is_name_byte name ≡ true → Ends rest → tokens (name ++ rest) ≡ word name ∷ tokens rest
 unfolding token
 word_step [] rest e all ends = absurd (no e)

@@ -11,13 +11,13 @@ ghost use Rattle.hcl_order.specs.Dependence.{Depends, FirstCycle};
 ghost use Rattle.ctl_atoms.specs.Atoms.{AreAtoms, IsFirstMixed, IsOver64};
 ghost use Rattle.ctl_atoms.specs.declared.leaf.Atom.{Atom};
 
-/// Where no name depends on itself, a design has an order.
+/// If no name depends on itself, a design has an order.
 pub fn law_of_orders()
     ensures { (rows : List Row) (terms : List Term) → IsSound rows → IsBound rows terms → ((n : ℕ) → Depends (needs_of (needs rows terms)) n n → ⊥) →
         (ids : List ℕ) × IsOrderOf rows terms ids }
 {}
 
-/// At most one cycle is the first.
+/// There is at most one first cycle.
 pub fn law_of_cycles()
     ensures { (needs : ℕ → List ℕ) (a b : List ℕ) → FirstCycle needs a → FirstCycle needs b → a ≡ b }
 {}
@@ -34,7 +34,7 @@ pub fn law_of_atoms()
     ensures over_or_atoms { (rows : List Row) (terms : List Term) (ids : List ℕ) → IsOrderOf rows terms ids → (a : List Atom) → IsOver64 rows terms → AreAtoms rows terms a → ⊥ }
 {}
 
-/// What was read, printed and read again is the same file.
+/// A file that is read, printed and read again stays the same.
 #[tactic(auto, using(crate::proofs::Printed::printed_again))]
 pub fn law_of_printing()
     ensures { (text : List ℕ) (f : File) → ReadsAs text f → ReadsAs (printed f.items) f }

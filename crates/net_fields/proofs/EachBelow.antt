@@ -1,4 +1,4 @@
--- What holds of each number below one, from a proof for each.
+-- A property of each number below a limit, from a proof for each.
 use Rattle.std.proofs.Common.{◌≡◌, ◌⊎◌, inl, inr, ℕ, zero, suc, ◌+◌, ◌<◌, ◌≤◌, sym, subst, arith}
 use Rattle.std.proofs.lemmas.Bool.{cases_eq}
 

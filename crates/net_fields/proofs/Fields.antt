@@ -8,7 +8,7 @@ pub spelt_zero : (w : List Bool) (first bits : ℕ) → bits ≡ 0 → spelt w f
 unfolding spelt
 spelt_zero w first bits e = rw e refl
 
--- the number of bits, by the last one of them
+-- the number that bits spell, by the last one of them
 pub spelt_suc : (w : List Bool) (first bits k : ℕ) → bits ≡ suc k → spelt w first bits ≡ 2 * spelt w first k + bit (get_or w (first + k) false)
 unfolding spelt
 spelt_suc w first bits k e = rw e refl
@@ -36,7 +36,7 @@ same_step w first bits first' bits' lt lt' = both_by _ _ _ _ _ _ (spelt_step w f
 pub below_step : (s n : ℕ) → 0 < n → nat_lt s n ≡ ((s == n - 1) || nat_lt s (n - 1))
 below_step s n lt = grind (arith, nat_tests)
 
--- a join of two gates that were made one after the other
+-- a join of two gates, the second one made after the first
 pub joined_and : (x x' a y b : Bool) → x' ≡ x → x ≡ a → y ≡ b → (x' && y) ≡ (a && b)
 joined_and x x' a y b h k l = grind arith
 
@@ -46,11 +46,11 @@ joined_or x x' a y b h k l = grind arith
 pub most_step : (may : Bool) (s n : ℕ) → may ≡ true → nat_lt s (n + 1) ≡ (may && nat_le s n)
 most_step may s n h = rw h (grind (arith, nat_tests))
 
--- a gate of one truth is one of any that is the same
+-- a gate of one truth is also one of any equal truth
 pub gate_as : {n : Gates} {g : ℕ} {f h : List Bool → Bool} → IsGate n g f → ((w : List Bool) → f w ≡ h w) → IsGate n g h
 gate_as {n} {g} {f} {h} made e = record { within = made.within; is = λ w. made.is w ∙ e w }
 
--- two gates that were made one after the other, joined
+-- the join of two gates, the second one made after the first
 pub joined : {first second last : Gates} {x y g : ℕ} {p q : List Bool → Bool} → IsGate first x p → ExtendsNet first second → IsGate second y q
     → IsGate last g (λ w. truth second x w && truth second y w) → IsGate last g (λ w. p w && q w)
 joined {first} {second} {last} {x} {y} {g} {p} {q} a b c made = gate_as made (λ w. joined_and _ _ _ _ _ (b.same x w a.within) (a.is w) (c.is w))

@@ -1,4 +1,4 @@
--- What an instruction reads and the condition of a real cycle fit its row.
+-- A fetched register byte and the condition of a real cycle fit the instruction's row.
 use Rattle.std.proofs.Common.{◌≡◌, ℕ, ◌<◌, ◌≤◌, inl, inr, Bool, true, false, nat_lt, if◌then◌else◌, refl, arith}
 use Rattle.std.proofs.lemmas.Bool.{ne_eqb, eq-eqb, lt-ltb, cases_eq, cases_lt}
 use Rattle.std.proofs.Math.Bool.{or-true}

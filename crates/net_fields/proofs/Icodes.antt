@@ -1,4 +1,4 @@
--- What is asked where a field is each number is what is asked at the number that it is.
+-- Tests for all numbers that a field can have amount to the one test for the number that it has.
 use Rattle.std.proofs.Common.{◌≡◌, ℕ, zero, suc, ◌+◌, ◌<◌, ◌≤◌, inl, inr, Bool, true, false, not, ◌&&◌, ◌||◌, ◌==◌, refl, subst, arith, add-one}
 use Rattle.std.proofs.lemmas.Bool.{eq-eqb, ne_eqb, cases_eq}
 use Rattle.net_fields.specs.Icodes.{each_below, where_below}

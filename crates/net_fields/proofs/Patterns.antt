@@ -14,7 +14,7 @@ unfolding spell
 length_spell zero n = refl
 length_spell (suc k) n = omega (arith, length-append (spell k (n / 2)) ((n % 2 == 1) ∷ []), length_spell k (n / 2))
 
--- bits behind others
+-- bits after others
 pub spelt_behind : (xs ys : List Bool) (first k at : ℕ) → at ≡ length xs + first → spelt (xs ++ ys) at k ≡ spelt ys first k
 unfolding spelt
 spelt_behind xs ys first zero at e = refl
@@ -67,7 +67,7 @@ decoded_pattern (s ∷ ss) (x ∷ xs) before rest first e h =
     let there = decoded_pattern ss xs (before ++ spell s.bits x) rest (first + s.bits) next h.1 in
     rw (here, rw (append_assoc before (spell s.bits x) (pattern ss xs rest)) at there) refl
 
--- what bits spell is in range
+-- the numbers that bits spell are in range
 pub bit_lt : (b : Bool) → bit b < 2
 bit_lt true = omega arith
 bit_lt false = omega arith
@@ -81,7 +81,7 @@ pub decoded_range : (ss : List FieldSpec) (first : ℕ) (w : List Bool) → InRa
 decoded_range [] first w = tt
 decoded_range (s ∷ ss) first w = (spelt_lt w first s.bits, decoded_range ss (first + s.bits) w)
 
--- the atoms stand behind the fields
+-- the atoms come after the fields
 pub length_pattern : (ss : List FieldSpec) (xs : List ℕ) (rest : List Bool) → InRange ss xs → length (pattern ss xs rest) ≡ total ss + length rest
 length_pattern [] [] rest h = omega arith
 length_pattern [] (x ∷ xs) rest h = absurd h

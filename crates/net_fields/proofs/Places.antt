@@ -1,4 +1,4 @@
--- Where the field of a signal is.
+-- The place of a signal's field.
 use Rattle.std.proofs.Common.{◌≡◌, ℕ, ◌+◌, ◌≤◌, Bool, true, false, List, [], ◌∷◌, Option, Some, if◌then◌else◌, refl, ap, subst, arith}
 use Rattle.net_fields.specs.declared.field_specs.BitRange.{BitRange}
 use Rattle.net_fields.specs.declared.field_specs.FieldSpec.{FieldSpec}
@@ -6,7 +6,7 @@ use Rattle.net_fields.specs.Laws.{IsPlaceOf}
 use Rattle.net_fields.specs.Spelling.{spelt}
 use Rattle.net_fields.specs.FieldSpecs.{total, decoded, is_name, number_among, place_from}
 
--- where a table begins with some field
+-- the first field of a table is the signal's, or a later one is
 by_first : (b : Bool) (x y : ℕ) (here : BitRange) (there : Option BitRange) (p : BitRange) (n : ℕ) → (if b then Some here else there) ≡ Some p
     → (b ≡ true → here ≡ p → x ≡ n) → (b ≡ false → there ≡ Some p → y ≡ n) → (if b then x else y) ≡ n
 by_first true x y here there p n e h k = h refl (grind (arith, e))

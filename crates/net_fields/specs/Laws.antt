@@ -5,7 +5,8 @@ use Rattle.net_fields.specs.declared.field_specs.FieldSpec.{FieldSpec}
 use Rattle.net_fields.specs.FieldSpecs.{total, decoded, number_among, pattern}
 use Rattle.net_fields.specs.Spelling.{spelt}
 
--- the pattern of numbers in range spells them, has the bits of the fields and of what follows, and these are where they were
+-- the pattern of numbers in range spells them, is as long as the fields and the rest together, and has the rest after
+-- the fields
 pub record IsPatternOf (ss : List FieldSpec) (xs : List ℕ) (rest : List Bool) : Type 0 where
   pub spells : decoded ss 0 (pattern ss xs rest) ≡ xs
   pub size : length (pattern ss xs rest) ≡ total ss + length rest

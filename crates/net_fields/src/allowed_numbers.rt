@@ -1,4 +1,5 @@
-//! Gates for the numbers that the fields of an instruction can have, where its icode is known.
+//! Gates for the numbers that the fields of an instruction can have, given its icode. Each function returns a gate that
+//! is true exactly if the function's comment is.
 ghost use Rattle.std.specs.Prelude.{◌≡◌, ◌<◌, ◌≤◌, ◌+◌, ◌==◌, ◌&&◌, ◌||◌, not, nat_le, length, IfOk};
 ghost use Rattle.nets.specs.Nets.{ExtendsNet, IsGate, truth};
 ghost use Rattle.net_fields.specs.AllowedNumbers as spec;
@@ -21,7 +22,7 @@ pub fn at_most(b: &mut NetBuilder, p: BitRange, most: u64) -> Result<u64, Memory
     below(b, p, most + 1)
 }
 
-/// The field is the number, and a test holds.
+/// The field is the number, and `holds` is true.
 pub fn spells_if(b: &mut NetBuilder, holds: bool, p: BitRange, n: u64) -> Result<u64, Memory>
     requires { p.first + p.bits ≤ b.old.vars }
     ensures extends { ExtendsNet b.old b.new }
@@ -34,7 +35,7 @@ pub fn spells_if(b: &mut NetBuilder, holds: bool, p: BitRange, n: u64) -> Result
     }
 }
 
-/// A bit is 1 only where the gate is true and a test holds.
+/// A bit is 1 only if the gate and `may` are true.
 pub fn zero_unless(b: &mut NetBuilder, may: bool, live: u64, bit: BitRange) -> Result<u64, Memory>
     requires live { live < length b.old.gates }
     requires place { bit.first + bit.bits ≤ b.old.vars }
@@ -48,7 +49,7 @@ pub fn zero_unless(b: &mut NetBuilder, may: bool, live: u64, bit: BitRange) -> R
     b.or(live, clear)
 }
 
-/// A bit tells the condition of an ifun.
+/// A bit can be the condition's result for an ifun: it is 1 for ifun 0, either for 1 to 6, and 0 for the others.
 pub fn cnd_allowed(b: &mut NetBuilder, ifun: BitRange, cnd: BitRange) -> Result<u64, Memory>
     requires ifun { ifun.first + ifun.bits ≤ b.old.vars }
     requires cnd { cnd.first + cnd.bits ≤ b.old.vars }
@@ -63,7 +64,7 @@ pub fn cnd_allowed(b: &mut NetBuilder, ifun: BitRange, cnd: BitRange) -> Result<
     choose(b, always, set, free)
 }
 
-/// A bit tells the condition of an ifun where the gate is true and a test holds, and is 0 elsewhere.
+/// A bit can be the condition's result for an ifun if the gate and `may` are true, and is 0 otherwise.
 pub fn cnd_allowed_where(
     b: &mut NetBuilder,
     may: bool,
@@ -86,7 +87,7 @@ pub fn cnd_allowed_where(
     choose(b, live, fits, clear)
 }
 
-/// A register field of the register byte.
+/// The field can be a register field of the register byte.
 pub fn register_field_allowed(
     b: &mut NetBuilder,
     has_byte: bool,
@@ -106,7 +107,7 @@ pub fn register_field_allowed(
     b.constant(true)
 }
 
-/// The number of the register that a column names.
+/// The field can be the number of the register that a column names.
 pub fn register_allowed(
     b: &mut NetBuilder,
     field: RegisterColumn,
@@ -123,7 +124,7 @@ pub fn register_allowed(
     }
 }
 
-/// The second source is the destination of valE where both are the field `rB`.
+/// The second source is the destination of valE if both are the field `rB`.
 pub fn shares_register(
     b: &mut NetBuilder,
     row: &Row,
@@ -142,7 +143,7 @@ pub fn shares_register(
     }
 }
 
-/// The destination of valE behind the condition.
+/// The field can be the destination of valE after the condition.
 pub fn destination_allowed(
     b: &mut NetBuilder,
     row: &Row,
@@ -163,7 +164,7 @@ pub fn destination_allowed(
     choose(b, lost, none, register)
 }
 
-/// What is fetched: a nop with an error, or an icode with an ifun that it takes.
+/// The fields can be a fetched icode and ifun: a nop if there is an error, else an icode with an ifun that it takes.
 pub fn reading_allowed(
     b: &mut NetBuilder,
     count: u64,
@@ -187,7 +188,7 @@ pub fn reading_allowed(
     b.and(read, most)
 }
 
-/// The status is one that goes with the icode.
+/// The status fits the icode.
 pub fn stat_allowed(
     b: &mut NetBuilder,
     count: u64,
@@ -220,7 +221,7 @@ fn blank_outside(b: &mut NetBuilder, stat: BitRange, ifun: BitRange) -> Result<u
     implies(b, outside, zero)
 }
 
-/// Status and ifun of an instruction of this icode behind its fetch.
+/// The fields can be the status and ifun of an instruction of this icode after its fetch.
 pub fn codes_allowed(
     b: &mut NetBuilder,
     count: u64,

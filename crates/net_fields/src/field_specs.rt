@@ -1,4 +1,4 @@
-//! Where the fields of a control valuation stand.
+//! The places of the fields of a control valuation.
 ghost use Rattle.std.specs.Prelude.{◌≡◌, ◌<◌, ◌+◌, ◌^◌};
 ghost use Rattle.net_fields.specs.FieldSpecs.{total, place_from};
 
@@ -9,15 +9,14 @@ pub struct BitRange {
     pub bits: u32,
 }
 
-/// A field of a control valuation: how many bits it has, and the row of the signal that it is, if one reads it.
+/// A field of a control valuation: its number of bits, and the row of the signal whose value it is, if there is one.
 #[derive(Clone, Copy, Debug, PartialEq, Eq)]
 pub struct FieldSpec {
     pub bits: u32,
     pub name: Option<u32>,
 }
 
-/// The place of the field that is a signal, if there is one, where the fields stand one behind the other from
-/// variable 0 on.
+/// The place of a signal's field, if it has one. The fields follow one another from variable 0 on.
 pub fn place_in(fields: &[FieldSpec], name: u32) -> Option<BitRange>
     requires { total fields.now < 2 ^ 32 }
     ensures { result ≡ place_from fields.now 0 name }

@@ -1,4 +1,5 @@
-//! Gates of fields: a field is a number, is below it, is another field.
+//! Gates that compare fields with numbers and with one another. Each function returns a gate that is true exactly if
+//! the function's comment is.
 ghost use Rattle.std.specs.Prelude.{◌≡◌, ◌<◌, ◌≤◌, ◌+◌, ◌==◌, ◌||◌, not, nat_lt, length, get_or, false, IfOk};
 ghost use Rattle.nets.specs.Nets.{ExtendsNet, IsGate, agree, truth};
 ghost use Rattle.net_fields.specs.Spelling.{spelt};
@@ -17,7 +18,7 @@ pub fn bit_is(b: &mut NetBuilder, v: u32, want: bool) -> Result<u64, Memory>
     if want { Ok(x) } else { b.not(x) }
 }
 
-/// Two variables have one value.
+/// Two variables have the same value.
 fn bits_same(b: &mut NetBuilder, v: u32, u: u32) -> Result<u64, Memory>
     requires first { v < b.old.vars }
     requires second { u < b.old.vars }
@@ -60,7 +61,7 @@ pub fn below(b: &mut NetBuilder, p: BitRange, n: u64) -> Result<u64, Memory>
     b.or(here, rest)
 }
 
-/// Two fields have one number.
+/// Two fields have the same number.
 pub fn same(b: &mut NetBuilder, p: BitRange, q: BitRange) -> Result<u64, Memory>
     requires first { p.first + p.bits ≤ b.old.vars }
     requires second { q.first + q.bits ≤ b.old.vars }
@@ -91,7 +92,7 @@ pub fn same(b: &mut NetBuilder, p: BitRange, q: BitRange) -> Result<u64, Memory>
     b.and(last, rest)
 }
 
-/// Where the field is the number, the gate is true.
+/// If the field is the number, the gate is true.
 pub fn here(b: &mut NetBuilder, p: BitRange, n: u64, x: u64) -> Result<u64, Memory>
     requires place { p.first + p.bits ≤ b.old.vars }
     requires gate { x < length b.old.gates }

@@ -5,8 +5,8 @@ ghost use Rattle.net_fields.specs.FieldSpecs.{decoded, InRange, place_from};
 ghost use Rattle.net_fields.specs.declared.field_specs.BitRange.{BitRange};
 ghost use Rattle.net_fields.specs.declared.field_specs.FieldSpec.{FieldSpec};
 
-/// Numbers in the range of a table's fields have a pattern of bits that spells them, whatever stands behind it; and
-/// what bits spell is in range.
+/// Numbers in the range of a table's fields have a pattern of bits that spells them, whatever follows it; and the
+/// numbers that bits spell are in range.
 pub fn law_of_patterns()
     ensures pattern { (ss : List FieldSpec) (xs : List ℕ) (rest : List Bool) → InRange ss xs → IsPatternOf ss xs rest }
     ensures range { (ss : List FieldSpec) (first : ℕ) (w : List Bool) → InRange ss (decoded ss first w) }

@@ -1,5 +1,5 @@
-//! Fields of a control valuation, as tables and as gates: a field is a number, and Boolean variables are its bits. And
-//! which numbers the fields of an instruction can have, by the columns of the instruction table.
+//! Fields of a control valuation, as tables and as gates: a field is a number, and Boolean variables are its bits. Also
+//! the numbers that the fields of an instruction can have, by the columns of the instruction table.
 //!
 //! An example: an icode has four bits. That it is 6 is a gate over these: `!b0 && b1 && b2 && !b3`, the most
 //! significant bit first.

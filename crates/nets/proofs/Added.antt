@@ -1,4 +1,4 @@
--- A gate that is put into a net: it is found, or goes last.
+-- Adding a gate to a net: an equal gate is found, or the gate goes last.
 use Rattle.std.proofs.Common.{◌≡◌, ◌⊎◌, inl, inr, ℕ, ◌<◌, ◌≤◌, List, [], ◌∷◌, ◌++◌, length, take, get_or, slice_get, Some, None, refl, sym, ap, ◌∙◌, subst, arith}
 use Rattle.std.proofs.lemmas.List.{take-append-le, take_all, length_push, get_or_append_left, get_or_push}
 use Rattle.std.proofs.lemmas.Option.{slice_get_cases, slice_get_within, slice_get-get_or, get_or_from_slice_get}
@@ -35,7 +35,7 @@ added_begins vars old new gate (inr e) =
     begins_by record { vars = vars; gates = old } record { vars = vars; gates = new } refl (omega (arith, ap length e, length_push old gate))
     (ap (take (length old)) e ∙ (take-append-le (length old) old (gate ∷ []) (omega arith) ∙ take_all (length old) old (omega arith)))
 
--- an added gate has the truth that comes from the others
+-- an added gate has the truth that the gates it reads determine
 pub added_gate : {n : Gates} {i : ℕ} {gate : Gate} → IsNet n → slice_get n.gates i ≡ Some gate → IsGate n i (λ w. gate_value w (truths n w) gate)
 added_gate {n} {i} {gate} net is =
     let h : i < length n.gates = slice_get_within n.gates i gate is in

@@ -11,7 +11,7 @@ use Rattle.nets.specs.declared.copies.Replacement.{Replacement}
 use Rattle.nets.specs.declared.copies.Replacement.TheVariants.{Const, Var}
 use Rattle.nets.specs.Forcing.{AreCommon, AreImplied, AreMarkedTrue, IsForced, SubstituteAgrees}
 
--- one mark more
+-- another mark
 pub one_true : (n : Gates) (old : List Bool) (a : ℕ) (u : List Bool) → AreMarkedTrue n old u → truth n a u ≡ true → AreMarkedTrue n (set old a true) u
 one_true n old a u h is i marked = by (cases_eq i a)
   where
@@ -37,7 +37,7 @@ pub never_false : (n : Gates) (i : ℕ) (marked u : List Bool) → ((w : List Bo
 unfolding truth
 never_false n i marked u meaning fails = absurd (false≢true (sym fails ∙ meaning u))
 
--- ---- marks that two lists have
+-- ---- marks that are in both lists
 
 pub record AreCommonTo (left right : List Bool) (count : ℕ) (marked : List Bool) : Type 0 where
   pub size : length marked ≡ length left
@@ -92,7 +92,7 @@ implied_more n gates count gate old others new h e here common = record { size =
         here u (ap (λ (g : ℕ). truth n g u) (e ∙ ap (λ (j : ℕ). get_or gates j 0) (sym same)) ∙ fails) i (common.in_right i at)
     by k lt (inr ne) u fails i at = h.each k (grind (arith, ne, lt)) u fails i (common.in_left i at)
 
--- ---- what stands in the places of the variables
+-- ---- the replacements of the variables
 
 pub settle_one : (to : List Replacement) (x : ℕ) (b : Bool) (u : List Bool) → get_or u x false ≡ b → SubstituteAgrees to u → SubstituteAgrees (set to x (Const b)) u
 settle_one to x b u is h y lt = by (cases_eq y x)

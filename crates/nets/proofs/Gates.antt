@@ -1,4 +1,4 @@
--- The gates of a copy have the truths of the gates for which they stand.
+-- The gates of a copy have the truths of the gates that they represent.
 use Rattle.std.proofs.Common.{◌≡◌, inl, inr, ℕ, ◌<◌, Bool, false, not, ◌&&◌, List, [], ◌∷◌, ◌++◌, length, get_or, sym, ap, ◌∙◌, subst, arith}
 use Rattle.std.proofs.lemmas.Bool.{cases_lt}
 use Rattle.std.proofs.lemmas.List.{get_or-map, get_or_append_left, get_or_push, length_push}
@@ -10,14 +10,14 @@ use Rattle.nets.specs.declared.copies.Replacement.{Replacement}
 use Rattle.nets.specs.declared.copies.Replacement.TheVariants.{Const as Fixed}
 use Rattle.nets.specs.Substitution.{source_truth, behind, AreCopies}
 
--- what stands in the place of variable x is what is read there
+-- the bit of variable x is the truth of its replacement
 pub read_at : (to : List Replacement) (u : List Bool) (x : ℕ) → x < length to → get_or (behind to u) x false ≡ source_truth u (get_or to x (Fixed false))
 read_at to u x h = get_or-map (source_truth u) to x (Fixed false) false h
 
 pub copies_none : (n copy : Gates) (to : List Replacement) (made : List ℕ) → made ≡ [] → AreCopies n copy to made
 copies_none n copy to made e = record { each = λ i h. (let k : i < length {A = ℕ} [] = subst (λ (xs : List ℕ). i < length xs) e h in absurd (omega (arith, k))) }
 
--- the copies of the gates so far with that of one more
+-- the copies of the gates so far, with the copy of the next gate
 pub copies_more : {n old new : Gates} {to : List Replacement} {made : List ℕ} {g i : ℕ} → (gate : Gate) → ExtendsNet old new → AreCopies n old to made → length made ≡ i
     → ((w : List Bool) → truth n i w ≡ gate_value w (truths n w) gate) → IsGate new g (λ u. gate_value (behind to u) (truths n (behind to u)) gate) → AreCopies n new to (made ++ g ∷ [])
 copies_more {n} {old} {new} {to} {made} {g} {i} gate begins copies size meaning is = record {

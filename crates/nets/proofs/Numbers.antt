@@ -1,4 +1,4 @@
--- The numbers below an end, one more at a time.
+-- The numbers below an end, counted up one at a time.
 use Rattle.std.proofs.Common.{◌≡◌, ℕ, zero, suc, ◌+◌, List, [], ◌∷◌, ◌++◌, sym, ap, ◌∙◌, arith, add-one, add-zero, zero-add}
 use Rattle.std.specs.List.{range_with_len}
 

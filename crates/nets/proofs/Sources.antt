@@ -1,4 +1,4 @@
--- A copy by bits and places stands for the valuations that begin with the bits.
+-- A copy by bits and places represents the valuations that begin with the bits.
 use Rattle.std.proofs.Common.{◌≡◌, inl, inr, ℕ, ◌<◌, ◌≤◌, Bool, false, List, [], ◌∷◌, ◌++◌, length, map, get_or, sym, ap, ◌∙◌, subst, arith}
 use Rattle.std.proofs.lemmas.Bool.{cases_lt}
 use Rattle.std.proofs.lemmas.List.{get_or-map, get_or_append_left, get_or_push, length_push, length-map, ext_get_or}
@@ -34,7 +34,7 @@ abbrev ahead : List ℕ → List Bool → List Bool
 ahead order w = map (λ (v : ℕ). get_or w v false) order
 
 module _ (n : Gates) {fixed : List Bool} {order : List ℕ} {to : List Replacement} (are : AreSourcesOf fixed order to) (whole : length order ≡ n.vars) (size : length to ≡ length order) where
-  -- what stands behind a valuation of the copy begins with the bits
+  -- the net's valuation for a valuation of the copy begins with the bits
   begins_behind : (u : List Bool) → length fixed ≤ n.vars → BeginsWith fixed (behind to u)
   begins_behind u few i h =
       let inside : i < length to = omega (arith, h, few, whole, size) in
@@ -44,7 +44,7 @@ module _ (n : Gates) {fixed : List Bool} {order : List ℕ} {to : List Replaceme
       by (Const b) p = p.1
       by (Var x) p = absurd (let q : length fixed ≤ i = p.0 in omega (arith, q, h))
 
-  -- a valuation that begins with the bits stands behind one of the copy
+  -- a valuation that begins with the bits is the net's valuation for one of the copy
   behind_ahead : (w : List Bool) → length w ≡ n.vars → BeginsWith fixed w → behind to (ahead order w) ≡ w
   behind_ahead w long begins =
       ext_get_or false (behind to (ahead order w)) w (length-map to (source_truth (ahead order w)) ∙ (size ∙ (whole ∙ sym long))) (λ i h.

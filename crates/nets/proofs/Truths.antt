@@ -1,4 +1,4 @@
--- The truth of a gate stays as the net grows, and the truth of a gate comes from those before it.
+-- The truth of a gate stays as the net grows, and it depends on the gates before it alone.
 use Rattle.std.proofs.Common.{◌≡◌, ℕ, ◌+◌, ◌<◌, ◌≤◌, List, [], ◌∷◌, ◌++◌, Bool, true, false, not, ◌&&◌, length, take, drop, get_or, slice_get, Some, refl, sym, ap, ◌∙◌, subst, arith}
 use Rattle.std.proofs.lemmas.List.{take-append-drop, get_or_append_left, get_or_push, length_push, take_all, take-take, take_more, length-take}
 use Rattle.std.proofs.lemmas.Option.{get_or_from_slice_get}
@@ -18,7 +18,7 @@ unfolding values
 values_length w e [] = omega arith
 values_length w e (x ∷ xs) = omega (arith, values_length w (e ++ gate_value w e x ∷ []) xs, length_push e (gate_value w e x))
 
--- where two truths agree, they are one
+-- two truths that agree are equal
 pub agree_true : (a b : Bool) → agree a b ≡ true → b ≡ a
 agree_true true b h = h
 agree_true false true h = cc
@@ -36,7 +36,7 @@ pub values_none : (w xs : List Bool) → xs ≡ [] → xs ≡ values w [] []
 unfolding values
 values_none w xs e = e
 
--- with one more gate there is one more truth
+-- a further gate adds a further truth
 pub values_more : (w : List Bool) (gates : List Gate) (i : ℕ) (gate : Gate) → slice_get gates i ≡ Some gate → i < length gates
     → values w [] (take (i + 1) gates) ≡ values w [] (take i gates) ++ gate_value w (values w [] (take i gates)) gate ∷ []
 unfolding values
@@ -115,7 +115,7 @@ gate_kept {old} {new} {g} {f} b is = record {
 pub gate_there : {n : Gates} {g : ℕ} → g < length n.gates → IsGate n g (λ w. truth n g w)
 gate_there h = record { within = h; is = λ w. refl }
 
--- the truth of a gate just made, in the truths of the net before
+-- the truth of a new gate, by the truths of the net before
 pub made_not : {old new : Gates} {a g : ℕ} → ExtendsNet old new → a < length old.gates → IsGate new g (λ w. gate_value w (truths new w) (Not a)) → IsGate new g (λ w. not (truth old a w))
 unfolding truth
 made_not {old} {new} {a} {g} b h made = record { within = made.within; is = λ w. made.is w ∙ ap not (b.same a w h) }
@@ -128,7 +128,7 @@ made_and {old} {new} {a} {b} {g} begins h k made = record {
   is = λ w. made.is w ∙ (ap (λ x. x && truth new b w) (begins.same a w h) ∙ ap (λ x. truth old a w && x) (begins.same b w k));
 }
 
--- a gate that is the negation of another, which is then its negation
+-- if a gate is the negation of another, the other is its negation
 pub negated : (n : Gates) (a inner : ℕ) → inner < length n.gates → ((w : List Bool) → truth n a w ≡ gate_value w (truths n w) (Not inner)) → IsGate n inner (λ w. not (truth n a w))
 unfolding truth
 negated n a inner h is = record { within = h; is = λ w. sym (not-not (truth n inner w)) ∙ ap not (sym (is w)) }

@@ -8,7 +8,7 @@ pub record Gates : Type 0 where
   pub vars : ℕ
   pub gates : List Gate
 
--- gate i reads only earlier gates, and variables that there are
+-- gate i reads only earlier gates, and variables below vars
 pub record ReadsEarlier (vars i : ℕ) (gate : Gate) : Type 0 where
   pub variable : (x : ℕ) → gate ≡ Var x → x < vars
   pub inverted : (a : ℕ) → gate ≡ Not a → a < i
@@ -31,7 +31,7 @@ abbrev pub agree : Bool → Bool → Bool
 agree true b = b
 agree false b = not b
 
--- the truths of a list of gates behind earlier ones
+-- the truths of a list of gates that come after earlier ones
 unfoldable pub values : List Bool → List Bool → List Gate → List Bool
 values w earlier [] = earlier
 values w earlier (g ∷ gs) = values w (earlier ++ gate_value w earlier g ∷ []) gs
@@ -56,6 +56,6 @@ pub record IsGate (n : Gates) (g : ℕ) (f : List Bool → Bool) : Type 0 where
   pub within : g < length n.gates
   pub is : (w : List Bool) → truth n g w ≡ f w
 
--- some gates stay as they are, or get one more
+-- a gate is added to a list, or the list stays as it is
 abbrev pub IsAdded : List Gate → List Gate → Gate → Type 0
 IsAdded old new gate = (new ≡ old) ⊎ (new ≡ old ++ gate ∷ [])

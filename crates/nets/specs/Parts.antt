@@ -13,8 +13,8 @@ BeginsWith fixed w = (i : ℕ) → i < length fixed → get_or w i false ≡ get
 abbrev pub HasSameTruths : Gates → SubstitutedNet → List Bool → List Bool → Type 0
 HasSameTruths n s w u = (i : ℕ) → i < length n.gates → truth s.net (get_or s.gates i 0) u ≡ truth n i w
 
--- The copy stands for the valuations of the net that begin with these bits: each of its valuations is one of them, and each of
--- them one of its.
+-- The copy represents the valuations of the net that begin with these bits: each valuation of the copy has one of them
+-- with the same truths, and each of them has one of the copy.
 pub record IsCofactorNet (n : Gates) (fixed : List Bool) (s : SubstitutedNet) : Type 0 where
   pub vars : s.net.vars ≡ n.vars
   pub size : length s.gates ≡ length n.gates

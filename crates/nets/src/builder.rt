@@ -8,8 +8,8 @@ use std::alloc::Global;
 use std::marker::Model;
 use y86_base::Memory;
 
-/// Builds a net, gate by gate. Each call answers the number of a gate with the truth that is asked for: a new
-/// gate, or an earlier one that is known to have it. A call that is refused memory leaves the earlier gates.
+/// Builds a net, gate by gate. Each call returns the number of a gate with the requested truth: a new gate, or an
+/// earlier one that is known to have it. A call that runs out of memory leaves the earlier gates.
 #[derive(Drop)]
 pub struct NetBuilder {
     net: Net,
@@ -34,7 +34,7 @@ impl NetBuilder {
         }
     }
 
-    /// Goes on from a net. The calls that follow take memory as those did that made it.
+    /// Goes on from a net. Later calls allocate as those did that made the net.
     pub fn resume(_alloc: Global, n: Net) -> NetBuilder
         ensures { result ≡ n }
     {
@@ -94,7 +94,7 @@ impl NetBuilder {
         }
     }
 
-    /// The same as `not`, by a gate for it.
+    /// The same as `not`, but always adds or finds the gate `Not(a)`.
     #[tactic(auto, using(crate::proofs::Truths::made_not))]
     fn add_not(&mut self, a: u64) -> Result<u64, Memory>
         requires { a < length self.old.gates }
@@ -122,7 +122,7 @@ impl NetBuilder {
         }
     }
 
-    /// The same as `and`, by a gate for it.
+    /// The same as `and`, but always adds or finds the gate `And(a, b)`.
     #[tactic(auto, using(crate::proofs::Truths::made_and))]
     fn add_and(&mut self, a: u64, b: u64) -> Result<u64, Memory>
         requires left { a < length self.old.gates }

@@ -1,4 +1,4 @@
-//! Connectives that are made of other gates.
+//! Connectives made of other gates. Each function returns a gate with the truth that its comment gives.
 ghost use Rattle.std.specs.Prelude.{◌<◌, ◌&&◌, ◌||◌, not, if◌then◌else◌, length, IfOk};
 ghost use Rattle.nets.specs.Nets.{ExtendsNet, IsGate, truth};
 

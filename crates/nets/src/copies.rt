@@ -1,4 +1,4 @@
-//! Copies of nets with something else in the place of each variable.
+//! Copies of nets with a constant or another variable in place of each variable.
 ghost use Rattle.std.specs.Prelude.{◌≡◌, ◌<◌, ℕ, length, IfOk};
 ghost use Rattle.nets.specs.Nets.{ExtendsNet, IsGate, ReadsEarlier, gate_value, truths};
 ghost use Rattle.nets.specs.declared.copies.Replacement.TheVariants.{Var};
@@ -9,21 +9,21 @@ use crate::net::{Gate, Net};
 use std::alloc::Global;
 use y86_base::{Items, Memory};
 
-/// What stands in the place of a variable: a constant, or a variable of the copy by its number.
+/// What replaces a variable: a constant, or a variable of the copy by its number.
 #[derive(Clone, Copy, Debug, PartialEq, Eq)]
 pub enum Replacement {
     Const(bool),
     Var(u32),
 }
 
-/// A copy of a net, and for each gate of the net the number of the gate of the copy with its truth.
+/// A copy of a net, and for each gate of the net the number of the copy's gate with its truth.
 #[derive(Drop)]
 pub struct SubstitutedNet {
     pub net: Net,
     pub gates: Items<u64>,
 }
 
-/// The gate of what stands in the place of a variable.
+/// The gate for what replaces a variable.
 fn source_gate(b: &mut NetBuilder, source: Replacement) -> Result<u64, Memory>
     requires { (x : ℕ) → source ≡ Var x → x < b.old.vars }
     ensures extends { ExtendsNet b.old b.new }
@@ -35,7 +35,7 @@ fn source_gate(b: &mut NetBuilder, source: Replacement) -> Result<u64, Memory>
     }
 }
 
-/// The gate of the copy that stands for a gate, from those for the gates that it reads.
+/// The gate of the copy for a gate of the net, from those for the gates that it reads.
 #[tactic(auto, using(crate::proofs::Gates::read_at, crate::proofs::Gates::variable_made, crate::proofs::Gates::not_made, crate::proofs::Gates::and_made))]
 fn copy_gate(
     b: &mut NetBuilder,
@@ -69,7 +69,7 @@ fn copy_gate(
     }
 }
 
-/// A copy of a net with `vars` variables, in which `to[i]` stands in the place of variable i.
+/// A copy of a net with `vars` variables, in which `to[i]` replaces variable i.
 #[tactic(auto, using(crate::proofs::Gates::copies_none, crate::proofs::Gates::copies_more))]
 pub fn substitute(
     alloc: Global,

@@ -12,7 +12,7 @@ pub struct Valuation {
     pub bits: Items<bool>,
 }
 
-/// A truth of a list, by its number.
+/// An entry of a list of truths, by its number; `false` past the end.
 fn truth_at(truths: &[bool], i: u64) -> bool
     ensures { result ≡ get_or truths.now i false }
 {

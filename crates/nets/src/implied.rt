@@ -9,7 +9,7 @@ use crate::net::{Gate, Net};
 use std::alloc::Global;
 use y86_base::Memory;
 
-/// So many marks of one kind.
+/// `size` marks of one kind.
 fn marks(alloc: Global, size: u64, mark: bool) -> Result<Vec<bool>, Memory>
     ensures { IfOk result (λ marks. marks.items ≡ replicate size mark) }
 {
@@ -19,7 +19,7 @@ fn marks(alloc: Global, size: u64, mark: bool) -> Result<Vec<bool>, Memory>
     }
 }
 
-/// Where gate `i` is marked and a conjunction, marks both its parts.
+/// If gate `i` is marked and is a conjunction, marks both its parts.
 #[tactic(auto, using(crate::proofs::Forcing::both_true))]
 fn mark_parts(n: &Net, i: u64, marked: &mut [bool])
     requires inside { i < length n.now.gates }
@@ -37,7 +37,7 @@ fn mark_parts(n: &Net, i: u64, marked: &mut [bool])
     }
 }
 
-/// Marks the gates whose conjunction a gate is.
+/// Marks conjuncts of a gate: gates that are true wherever it is true.
 #[tactic(auto, using(crate::proofs::Forcing::one_true))]
 fn conjuncts(alloc: Global, n: &Net, gate: u64) -> Result<Vec<bool>, Memory>
     requires { gate < length n.now.gates }
@@ -68,7 +68,7 @@ fn implied(alloc: Global, n: &Net, gate: u64) -> Result<Vec<bool>, Memory>
     }
 }
 
-/// Takes away the marks that others don't have.
+/// Removes the marks that aren't in both lists.
 #[tactic(auto, using(crate::proofs::Forcing::common_none, crate::proofs::Forcing::common_more, crate::proofs::Forcing::common_less, crate::proofs::Forcing::common_all))]
 fn keep_common(marked: &mut [bool], others: &[bool])
     requires { length marked.old ≡ length others.now }
@@ -81,7 +81,7 @@ fn keep_common(marked: &mut [bool], others: &[bool])
     }
 }
 
-/// Marks gates that are true wherever one of some gates is false.
+/// Marks gates that are true wherever any of the given gates is false.
 #[tactic(auto, using(crate::proofs::Forcing::implied_none, crate::proofs::Forcing::implied_more))]
 fn implied_by_all(alloc: Global, n: &Net, gates: &[u64]) -> Result<Vec<bool>, Memory>
     requires { (k : ℕ) → k < length gates.now → get_or gates.now k 0 < length n.now.gates }
@@ -95,7 +95,7 @@ fn implied_by_all(alloc: Global, n: &Net, gates: &[u64]) -> Result<Vec<bool>, Me
     Ok(marked)
 }
 
-/// Where a gate is a variable or the negation of one, puts the bit for it that makes the gate true.
+/// If a gate is a variable or the negation of one, puts the bit that makes the gate true in the variable's place.
 #[tactic(auto, using(crate::proofs::Forcing::settle_one, crate::proofs::Forcing::sources_one, crate::proofs::Forcing::variable_bit, crate::proofs::Forcing::negated_bit))]
 fn settle(n: &Net, gate: u64, to: &mut [Replacement])
     requires inside { gate < length n.now.gates }
@@ -113,7 +113,7 @@ fn settle(n: &Net, gate: u64, to: &mut [Replacement])
     }
 }
 
-/// Each of so many variables in its own place.
+/// Each of `vars` variables in its own place.
 #[tactic(auto, using(crate::proofs::Forcing::settle_more, crate::proofs::Forcing::settle_none, crate::proofs::Forcing::sources_more))]
 fn themselves(alloc: Global, vars: u32) -> Result<Vec<Replacement>, Memory>
     ensures size { IfOk result (λ to. length to.items ≡ vars) }
@@ -129,8 +129,8 @@ fn themselves(alloc: Global, vars: u32) -> Result<Vec<Replacement>, Memory>
     Ok(to)
 }
 
-/// What stands in the places of the variables where one of some gates is false: a bit for each variable that is seen to
-/// have one there, and the variable itself for each other one.
+/// A replacement for each variable that is right wherever any of the given gates is false: a bit if the variable is
+/// seen to have one there, else the variable itself.
 #[tactic(auto, using(crate::proofs::Forcing::is_forced))]
 pub fn forced(alloc: Global, n: &Net, gates: &[u64]) -> Result<Vec<Replacement>, Memory>
     requires { (k : ℕ) → k < length gates.now → get_or gates.now k 0 < length n.now.gates }

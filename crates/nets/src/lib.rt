@@ -1,10 +1,10 @@
 //! Nets of gates: formulas over numbered variables that share their parts, and their truth under a valuation.
 //!
-//! A net is an and-inverter graph with constants (CS:APP 3e, section 4.2.2, combinational circuits): each gate
-//! stands behind the gates that it reads, so a net has no cycle.
+//! A net is an and-inverter graph with constants (CS:APP 3e, section 4.2.2, combinational circuits): each gate comes
+//! after the gates that it reads, so a net has no cycle.
 //!
-//! A net can be copied with constants or other variables in the place of its variables: the diagrams of a copy may be far
-//! smaller than those of the net, and its valuations are those of the net.
+//! A net can be copied with constants or other variables in place of its variables: the diagrams of a copy may be far
+//! smaller than those of the net, and each of its valuations gives one of the net.
 //!
 //! An example: `a && !b`, where `a` is variable 0 and `b` variable 1, is four gates: 0 is `Var(0)`, 1 is `Var(1)`, 2 is
 //! `Not(1)`, and 3 is `And(0, 2)`.

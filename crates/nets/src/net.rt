@@ -16,7 +16,7 @@ pub enum Gate {
     And(u64, u64),
 }
 
-/// Puts a gate behind others, or finds an equal one, and answers its number.
+/// Finds an equal gate or adds the gate after the others, and returns its number.
 fn place(gates: &mut IndexSet<Gate>, gate: Gate) -> Result<u64, Memory>
     ensures grows { IsAdded gates.old.keys gates.new.keys gate }
     ensures found { IfOk result (λ i. slice_get gates.new.keys i ≡ Some gate) }
@@ -70,7 +70,7 @@ impl Net {
         self.gates.len() as u64
     }
 
-    /// A gate by its number. It reads only earlier gates, and its truth comes from theirs.
+    /// A gate by its number. It reads only earlier gates, and these determine its truth.
     pub fn gate(&self, i: u64) -> Gate
         requires { i < length self.now.gates }
         ensures is { slice_get self.now.gates i ≡ Some result }
@@ -83,7 +83,7 @@ impl Net {
         }
     }
 
-    /// Puts a gate behind the others, or finds an equal one that is there.
+    /// Adds a gate after the others, or finds an equal one.
     #[tactic(auto, using(crate::proofs::Added::added_net, crate::proofs::Added::added_begins))]
     pub(crate) fn add(&mut self, gate: Gate) -> Result<u64, Memory>
         requires { ReadsEarlier self.old.vars (length self.old.gates) gate }

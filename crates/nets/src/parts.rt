@@ -7,7 +7,7 @@ use crate::net::Net;
 use std::alloc::Global;
 use y86_base::Memory;
 
-/// What stands in the place of variable `i`: its bit, or its place in the order.
+/// What replaces variable `i`: its bit, or its place in the order.
 fn source_of(fixed: &[bool], order: &[u32], i: u32) -> Option<Replacement>
     requires few { length order.now < 2 ^ 32 }
     ensures found { IfSome result (IsSourceOf fixed.now order.now i) }
@@ -22,7 +22,7 @@ fn source_of(fixed: &[bool], order: &[u32], i: u32) -> Option<Replacement>
     }
 }
 
-/// What stands in the places of all variables.
+/// What replaces each variable.
 #[tactic(auto, using(crate::proofs::Sources::sources_none, crate::proofs::Sources::sources_more))]
 fn sources(alloc: Global, fixed: &[bool], order: &[u32]) -> Result<Option<Vec<Replacement>>, Memory>
     requires few { length order.now < 2 ^ 32 }
@@ -46,8 +46,8 @@ fn sources(alloc: Global, fixed: &[bool], order: &[u32]) -> Result<Option<Vec<Re
     Ok(Some(to))
 }
 
-/// The part of a net whose valuations begin with the bits `fixed`: in the copy the other variables stand in a new
-/// order, variable `order[x]` of the net at the place x. `None` where the order lacks one of them.
+/// The part of a net whose valuations begin with the bits `fixed`. In the copy the other variables are in a new order:
+/// variable `order[x]` of the net is variable x of the copy. `None` if the order lacks one of them.
 #[tactic(auto, using(crate::proofs::Sources::are_sources, crate::proofs::Sources::is_part))]
 pub fn cofactor(
     alloc: Global,

@@ -5,7 +5,7 @@ ghost use Rattle.std.specs.List.{range_with_len};
 use std::alloc::Global;
 use y86_base::Memory;
 
-/// So many variables, by their numbers.
+/// The numbers of `vars` variables, from 0 on.
 #[tactic(auto, using(crate::proofs::Numbers::numbers_more))]
 pub fn all_variables(alloc: Global, vars: u32) -> Result<Vec<u32>, Memory>
     ensures { IfOk result (λ order. order.items ≡ range_with_len 0 vars) }

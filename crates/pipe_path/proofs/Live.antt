@@ -1,4 +1,4 @@
--- How many records a cycle retires: one exactly where an instruction in W is live.
+-- The number of records that a cycle retires: one exactly if the instruction in W is live.
 use Rattle.std.proofs.Common.{◌≡◌, ℕ, Bool, true, false, length, Option, Some, None, if◌then◌else◌, refl, sym, ap, ◌∙◌}
 use Rattle.std.specs.Option.{option_to_list}
 use Rattle.y86_isa.specs.declared.machine.Rec.{Rec}

@@ -16,7 +16,7 @@ use Rattle.pipe_path.specs.declared.pipe.Cycled.TheVariants as told
 use Rattle.pipe_path.specs.Calls.{IsRun, record_in, CallsAreTheRun}
 use Rattle.pipe_path.specs.Pipe.{PipeMachine, IsPipeCall, after_cycle, call_answer}
 
--- the machine of the definition of a run that a machine and its records stand for
+-- a machine and its records, as the history that the definition of a run uses
 abbrev run_machine : PipeMachine → List Rec → run.PipeHistory
 run_machine p records = record { state = p.state; records = records; end = p.end }
 

@@ -20,8 +20,8 @@ use Rattle.dp_signals.specs.declared.pipe_state.PipeState.{PipeState}
 use Rattle.pipe_path.specs.declared.pipe.Cycled.{Cycled}
 use Rattle.pipe_path.specs.declared.pipe.Cycled.TheVariants as told
 
--- the instruction set, the design with its order, the state, how many cycles were done and records retired, and how the machine
--- ended: AOK while it goes on
+-- the instruction set, the design with its order, the state, the numbers of cycles done and records retired, and how
+-- the machine ended: AOK while it goes on
 pub record PipeMachine : Type 0 where
   pub variant : Variant
   pub terms : List Term
@@ -50,7 +50,7 @@ after_cycle p f =
       end = end_by (ending f) (stat_of (f row.Stat));
     }
 
--- what the call tells of a cycle: how it ended, and the record that retired
+-- the result of the call for a cycle: how it ended, and the record that retired
 abbrev pub going_answer : Option Rec → Cycled
 going_answer None = told.Bubble
 going_answer (Some r) = told.Retired r
@@ -60,14 +60,14 @@ call_answer Going r = going_answer r
 call_answer Stopped r = told.Stopped r
 call_answer Pip r = told.Pip r
 
--- a call on the machine p that answers r and leaves the machine q: after the end nothing changes, and before it the machine does one
--- cycle with values that solve the cycle's equations
+-- a call on the machine p that returns r and leaves the machine q: after the end nothing changes, and before it the
+-- machine does one cycle with values that solve the cycle's equations
 pub record IsPipeCall (p : PipeMachine) (r : Cycled) (q : PipeMachine) : Type 0 where
   pub ended : is_aok p.end ≡ false → (r ≡ told.Ended) × (q ≡ p)
   pub goes : is_aok p.end ≡ true →
       (f : ℕ → ℕ) × Solves p.variant p.terms p.state f × (q ≡ after_cycle p f) × (r ≡ call_answer (ending f) (retires p.state f))
 
--- the end that a machine tells, as the machine of the instruction level that it stands for
+-- the machine's end, as a machine of the instruction level
 abbrev pub end_of : PipeMachine → Machine
 end_of p =
     record { regs = p.state.regs; flags = p.state.flags; pc = end_pc p.state p.end; stat = p.end; mem = p.state.mem }

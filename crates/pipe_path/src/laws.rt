@@ -10,14 +10,14 @@ ghost use Rattle.dp_signals.specs.PipeTable.{pipe_rows};
 ghost use Rattle.dp_signals.specs.declared.pipe_state.PipeState.{PipeState};
 ghost use Rattle.pipe_path.specs.Calls.{CallsAreTheRun};
 
-/// Where a design has an order, the equations of a cycle have a solution, in every state. It is the only one by
-/// `dp_signals::law_of_solutions`.
+/// If a design has an order, the equations of a cycle have a solution in every state. By `dp_signals::law_of_solutions`
+/// it is the only one.
 pub fn law_of_solutions()
     ensures { (v : Variant) (p : PipeState) (terms : List Term) (ids : List ℕ) →
         IsBound pipe_rows terms → IsOrderOf pipe_rows terms ids → (f : ℕ → ℕ) × Solves v terms p f }
 {}
 
-/// Where a design has an order, it has exactly one run of each number of cycles on an image.
+/// If a design has an order, it has exactly one run of each number of cycles on an image.
 pub fn law_of_runs()
     ensures there { (v : Variant) (terms : List Term) (ids image : List ℕ) (k : ℕ) →
         IsBound pipe_rows terms → IsOrderOf pipe_rows terms ids → (p : run.PipeHistory) × PipeRun v terms image k p }

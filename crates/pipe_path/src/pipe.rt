@@ -1,4 +1,4 @@
-//! The pipelined machine.
+//! The pipelined machine: one call, one cycle.
 ghost use Rattle.std.specs.Prelude.{◌≡◌, ◌<◌, ◌^◌, ◌+◌, ◌≤◌, Option, Some, None, IfSome, if◌then◌else◌, length};
 ghost use Rattle.std.specs.Option.{option_to_list};
 ghost use Rattle.y86_base.specs.Stat.{stat_of};
@@ -42,9 +42,9 @@ pub enum Cycled {
     Ended,
 }
 
-/// A pipelined machine: a design with an order of its signals, an evaluator of the design, and the state that it is in. The values of
-/// its signals are kept from cycle to cycle: the constants and the words of the state stand there as a cycle begins. `fits` is the
-/// evaluator's answer about the constants.
+/// A pipelined machine: a design with an order of its signals, an evaluator of the design, and the current state. The
+/// values of its signals are kept from cycle to cycle: as a cycle begins, they hold the constants and the words of the
+/// state. `fits` says whether the evaluator's assumptions fit the constants.
 #[derive(Drop)]
 pub struct Pipe<C: SignalEval> {
     variant: Variant,
@@ -91,8 +91,8 @@ fn told(ending: CycleEnd, retired: Option<Rec>) -> Cycled
     }
 }
 
-/// Ends the cycle of a state with these values: the next state, and its words among the values. It answers how the cycle ended, and the
-/// status that it left.
+/// Ends the cycle of a state with these values: it updates the state, and puts the new state's words among the values.
+/// Returns how the cycle ended, and the status after it.
 #[inline(always)]
 fn finish(state: &mut PipeState, values: &mut PipeValues) -> (CycleEnd, Stat)
     requires { Starts constants values.old }
@@ -112,7 +112,7 @@ fn finish(state: &mut PipeState, values: &mut PipeValues) -> (CycleEnd, Stat)
     (ending, end)
 }
 
-/// How many records retire where an instruction in W is live or isn't.
+/// The number of records that retire: 1 if the instruction in W is live, else 0.
 #[inline(always)]
 fn one(live: bool) -> u64
     ensures count { result ≡ (if live then 1 else 0) }
@@ -138,7 +138,8 @@ fn end_pc(state: &PipeState, end: Stat) -> u64
 }
 
 impl<C: SignalEval> Pipe<C> {
-    /// A machine before its first cycle, with a memory image. The evaluator is one of the design. No memory is taken, here or later.
+    /// A machine before its first cycle, with a memory image. The evaluator must be one of the design. No memory is
+    /// allocated, here or later.
     pub fn new(variant: Variant, design: Design, order: Order, evaluator: C, mem: Image) -> Pipe<C>
         requires evaluates { C.evaluates evaluator design.terms }
         requires bound { IsBound pipe_rows design.terms }
@@ -162,9 +163,9 @@ impl<C: SignalEval> Pipe<C> {
         }
     }
 
-    /// Does one cycle. `Stopped` comes exactly where the cycle's `Stat` isn't AOK, `Pip` exactly where it is AOK and some pipeline register is
-    /// stalled and bubbled at once, and `Ended`, with no change, exactly after either. Else `Retired` comes exactly where an instruction in W is
-    /// live.
+    /// Does one cycle. The result is `Stopped` exactly if the cycle's `Stat` isn't AOK, `Pip` exactly if it is AOK and
+    /// some pipeline register is stalled and bubbled at once, and `Ended`, without any change, in each call after one
+    /// of these. Otherwise it is `Retired` exactly if the instruction in W is live.
     pub fn cycle(&mut self) -> Cycled
         requires { self.old.cycles < 2 ^ 63 }
         ensures cycle { spec.IsPipeCall self.old result self.new }
@@ -194,7 +195,7 @@ impl<C: SignalEval> Pipe<C> {
         told(ending, record)
     }
 
-    /// Does one cycle as `cycle` does, and tells how many records retired, 0 or 1. It makes no record.
+    /// Does one cycle as `cycle` does, and returns the number of records that retired, 0 or 1. It makes no record.
     #[inline(always)]
     pub fn pass(&mut self) -> u64
         requires { self.old.cycles < 2 ^ 63 }
@@ -225,7 +226,7 @@ impl<C: SignalEval> Pipe<C> {
         more
     }
 
-    /// How the machine ended, or stands: its registers, flags and memory, the PC and the status.
+    /// The state of the machine for a report: its registers, flags and memory, the PC and the status.
     pub fn end(&self) -> End<'_>
         ensures { ended result ≡ spec.end_of self.now }
     {
@@ -245,14 +246,14 @@ impl<C: SignalEval> Pipe<C> {
         self.end
     }
 
-    /// How many cycles were done, the one in which the machine stopped among them.
+    /// The number of cycles done, including the one in which the machine stopped.
     pub fn cycles(&self) -> u64
         ensures { result ≡ self.now.cycles }
     {
         self.cycles
     }
 
-    /// How many records retired.
+    /// The number of records that retired.
     pub fn retired(&self) -> u64
         ensures count { result ≡ self.now.retired }
         ensures few { result ≤ self.now.cycles }

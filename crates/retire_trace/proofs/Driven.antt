@@ -1,4 +1,4 @@
--- One more cycle of a drive, and its ends.
+-- Another cycle of a drive, and the ways in which it ends.
 use Rattle.std.proofs.Common.{◌≡◌, ℕ, suc, ◌+◌, ◌<◌, ◌≤◌, Bool, true, false, List, [], ◌∷◌, ◌++◌, length, map, take, Option, Some, Ok, Err, refl, sym, ◌∙◌, ap, subst, arith, add-one, length-append, append_assoc}
 use Rattle.std.proofs.lemmas.List.{append-nil, map-append}
 use Rattle.std.specs.List.{concat}
@@ -40,7 +40,7 @@ traced_off trace rs e = ap (λ b. traced b rs) e
 pub traced_on : (trace : Bool) (r : Rec) → trace ≡ true → traced trace (r ∷ []) ≡ trace_line r
 traced_on trace r e = ap (λ b. traced b (r ∷ [])) e ∙ traced_one r
 
--- what a drive has done: k cycles, before each of which the machine went on, and the lines of what retired
+-- a drive so far: k cycles, before each of which the machine went on, and the lines of the records that retired
 pub record Driven (p : PipeMachine) (k : ℕ) (q : PipeMachine) (trace : Bool) (old new : Option (List ℕ)) (retired : ℕ) : Type 0 where
   pub records : List Rec
   pub goes : CallsFor p k q records

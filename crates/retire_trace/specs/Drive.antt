@@ -19,12 +19,12 @@ CallsFor p (suc k) q records =
     (m : PipeMachine) × (before : List Rec) × (r : Cycled) × CallsFor p k m before × (is_aok m.end ≡ true) × IsPipeCall m r q
     × (records ≡ before ++ option_to_list (record_in r))
 
--- the lines of some records, where a trace is asked for
+-- the lines of the records, if a trace is requested
 unfoldable pub traced : Bool → List Rec → List ℕ
 traced trace records = if trace then concat (map trace_line records) else []
 
--- one cycle from p to q with what it wrote: the line of the record that retired, where a trace is asked for, and how many retired; a
--- write that failed left a proper prefix of that line
+-- one cycle from p to q with its output and the number of records that retired; if a trace is requested, the output is
+-- the record's line, and after a failed write a proper prefix of that line
 abbrev pub TracedCycle : PipeMachine → PipeMachine → Bool → Option (List ℕ) → Option (List ℕ) → Result ℕ Failed → Type 0
 TracedCycle p q trace old new (Ok retired) =
     (r : Cycled) × IsPipeCall p r q × (retired ≡ length (option_to_list (record_in r))) × Appended old new (traced trace (option_to_list (record_in r)))
@@ -39,7 +39,8 @@ pub record IsDrive (p : PipeMachine) (limit : ℕ) (q : PipeMachine) (d : Drove)
   pub retired : d.retired ≡ length records
   pub end : d.end ≡ q.end
 
--- a drive whose trace was asked for and failed at the line of the last record: the machine is after the cycle that retired it
+-- a drive with a trace that failed at the line of the last record: the machine is in the state after the cycle that
+-- retired it
 pub record IsFailedDrive (p : PipeMachine) (limit : ℕ) (trace : Bool) (q : PipeMachine) (old new : Option (List ℕ)) (k : ℕ) (records : List Rec) (last : Rec) (n : ℕ) : Type 0 where
   pub within : k ≤ limit
   pub goes : CallsFor p k q (records ++ last ∷ [])

@@ -35,7 +35,7 @@ unfoldable pub tail : Flags → Stat → List ℕ
 tail flags stat =
     concat (codes " " ∷ flag flags.zf ∷ flag flags.sf ∷ flag flags.of ∷ codes " " ∷ stat_name stat ∷ codes "\n" ∷ [])
 
--- the line of a record: the destination of valE stands before that of valM
+-- the line of a record: the destination of valE comes before that of valM
 unfoldable pub trace_line : Rec → List ℕ
 trace_line r =
     head r.pc r.icode r.ifun ++ written r.dst_e r.val_e ++ written r.dst_m r.val_m ++ stored r.store ++ tail r.flags r.stat

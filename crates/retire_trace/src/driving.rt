@@ -13,7 +13,7 @@ use wb_io::{Failed, Sink};
 use y86_base::Stat;
 use y86_isa::Rec;
 
-/// What a drive did: the cycles and the records of this drive alone, and how the machine ended: AOK where it goes on.
+/// What a drive did: its own cycles and records, and how the machine ended: AOK if it can go on.
 #[derive(Clone, Copy, Debug, PartialEq, Eq)]
 pub struct Drove {
     pub cycles: u64,
@@ -21,7 +21,7 @@ pub struct Drove {
     pub end: Stat,
 }
 
-/// The record that an answer of `cycle` tells.
+/// The record in the result of `cycle`.
 fn record_of(cycled: Cycled) -> Option<Rec>
     ensures { result ≡ record_in cycled }
 {
@@ -34,7 +34,8 @@ fn record_of(cycled: Cycled) -> Option<Rec>
     }
 }
 
-/// Does one cycle, and writes the line of the record that retired where a trace is asked for. It answers how many records retired.
+/// Does one cycle, and writes the line of the record that retired if a trace is requested. Returns the number of
+/// records that retired.
 #[inline(always)]
 fn traced_cycle<C: SignalEval, S: Sink>(
     p: &mut Pipe<C>,
@@ -59,9 +60,9 @@ fn traced_cycle<C: SignalEval, S: Sink>(
     }
 }
 
-/// Does cycles until the limit, or until the machine has ended, and writes the line of each record that retires where a trace is asked for. It
-/// takes no memory. A write that fails ends the drive: a proper prefix of that record's line went out behind the earlier lines, and the machine is
-/// after the cycle that retired the record.
+/// Does cycles until the limit, or until the machine has ended. If a trace is requested, it writes the line of each
+/// record that retires. It allocates no memory. A failed write ends the drive: a proper prefix of that record's line
+/// was written after the earlier lines, and the machine is in the state after the cycle that retired the record.
 pub fn drive<C: SignalEval, S: Sink>(
     p: &mut Pipe<C>,
     limit: u64,

@@ -70,7 +70,8 @@ fn put_tail<S: Sink>(flags: Flags, stat: Stat, out: &mut S) -> Result<(), Failed
     put_pieces(out, &[b" ", zero, sign, overflow, b" ", stat.name(), b"\n"])
 }
 
-/// Writes the trace line of a record. It takes no memory. A failed write leaves a proper prefix of the line in the sink.
+/// Writes the trace line of a record. It allocates no memory. A failed write leaves a proper prefix of the line in the
+/// sink.
 pub fn line<S: Sink>(r: &Rec, out: &mut S) -> Result<(), Failed>
     requires e { r.now.dst_e ≤ 15 }
     requires m { r.now.dst_m ≤ 15 }

@@ -1,4 +1,4 @@
--- Where an obligation is false, one of its requirements isn't met; and what the datapaths' tables and fields keep.
+-- If an obligation is false, one of its requirements isn't met; and facts about the datapaths' tables and fields.
 use Rattle.std.proofs.Common.{◌≡◌, ℕ, ◌≤◌, Bool, false, List, map, sym, ◌∙◌, arith}
 use Rattle.y86_base.specs.declared.parts.Variant.{Variant}
 use Rattle.hcl_types.specs.declared.term.Term.{Term}

@@ -21,11 +21,11 @@ numbers_at which w = decoded (spots_of which) 0 w
 abbrev pub truths_at : Datapath → List Atom → List Bool → Assignment
 truths_at which atoms w = assigned atoms (total (spots_of which)) w
 
--- what obligation i asks at the valuation that the bits spell
+-- what obligation i demands at the valuation that the bits spell
 abbrev pub asks_at : Datapath → Variant → ℕ → List Bool → Assignment → (ℕ → Leaf) → Bool
 asks_at which v i w α cv = (questions_of which v).asks i (numbers_at which w) α cv
 
--- Obligation i is false of the valuation that the bits spell.
+-- Obligation i is false at the valuation that the bits spell.
 abbrev pub Fails : Datapath → Variant → List Term → List Atom → ℕ → List Bool → Type 0
 Fails which v terms atoms i w =
     (α : Assignment) (cv : ℕ → Leaf) → AtomsAre atoms (total (spots_of which)) w α → AreControls (rows_of which) terms (field_at (spots_of which) w) α cv → asks_at which v i w α cv ≡ false

@@ -15,12 +15,12 @@ use seq_requirements::{bit_count, first_defined, requirements_of, spots_of, tabl
 use std::alloc::Global;
 use y86_base::{Items, Memory};
 
-/// What is wrong at a valuation.
+/// The diagnosis of a valuation: every control value, and a finding for each signal that the obligation is about.
 #[derive(Drop)]
 pub struct Diagnosis {
     /// The control value of each row of the table.
     pub leaves: Items<Leaf>,
-    /// A finding for each signal that the obligation requires something of.
+    /// A finding for each requirement of the obligation.
     pub findings: Items<Finding>,
 }
 

@@ -1,9 +1,9 @@
-//! A file for SEQ or SEQ+, as its obligations are asked of it.
+//! A file for SEQ or SEQ+, with what its obligations depend on.
 use hcl_types::{Design, Order};
 use seq_requirements::Datapath;
 use y86_base::Variant;
 
-/// A file for SEQ or SEQ+, and the instruction set that its obligations are asked for.
+/// A file for SEQ or SEQ+, and the instruction set for which it is checked.
 #[derive(Clone, Copy)]
 pub struct SeqFile<'a> {
     /// The datapath that the file is for.

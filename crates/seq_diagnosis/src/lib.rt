@@ -1,6 +1,6 @@
 //! A diagnosis of one counterexample: an obligation of SEQ or SEQ+, and a valuation at which it is false.
 //!
-//! It says of each signal what the obligation requires and what the file picks. At least one signal is wrong.
+//! It says for each signal what the obligation requires and what the file picks. At least one signal is wrong.
 #![tactic(auto)]
 
 mod diagnosis;

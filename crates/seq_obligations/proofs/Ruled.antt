@@ -1,4 +1,4 @@
--- From what the gates of names tell to the rules of a design.
+-- From the gates of names, which encode control values, to the rules of a design.
 use Rattle.std.proofs.Common.{◌≡◌, ℕ, ◌+◌, ◌-◌, Bool, List, length, sym, subst, ◌∙◌, arith}
 use Rattle.nets.specs.Nets.{Gates, ExtendsNet}
 use Rattle.hcl_types.specs.declared.term.Term.{Term}
@@ -17,7 +17,7 @@ use Rattle.ctl_rules.specs.declared.rules.Rule.{Rule}
 use Rattle.seq_obligations.specs.Obligations.{rule_count}
 use Rattle.seq_obligations.specs.Rules.{AreDesignedRules, AreNumbered}
 
--- rules that hold where the gates of names tell control values are the rules of the design
+-- rules that are right if the gates of names encode control values are the rules of the design
 pub designed : {translated last : Gates} (rows seen : List Row) (places ps : List Place) (field : List Bool → ℕ → ℕ) (bits : ℕ) (f : ℕ → List Bool → Assignment → (ℕ → Leaf) → Bool)
     (terms : List Term) (ctl : List Entry) (atoms : List Atom) (list : List Rule) (vars : ℕ)
     → seen ≡ rows → ps ≡ places → ((w : List Bool) → Spells places w (field w)) → AreAtoms seen terms atoms → vars ≡ bits + length atoms → translated.vars ≡ vars → IsInside translated ctl

@@ -1,4 +1,4 @@
--- What SEQ's rules stand on.
+-- The facts on which SEQ's rules depend.
 use Rattle.std.proofs.Common.{◌≡◌, ℕ, ◌+◌, ◌≤◌, ◌||◌, not, IsTrue, Bool, true, List, refl, arith}
 use Rattle.y86_base.specs.declared.parts.Variant.{Variant}
 use Rattle.nets.specs.Nets.{Gates}

@@ -15,8 +15,9 @@ use nets::NetBuilder;
 use std::alloc::Global;
 use y86_base::{Items, Variant};
 
-/// The 16 rules of a design for a sequential datapath, in their order: each gate is its obligation at every pattern of bits of a control
-/// valuation. The fields stand first, then the atoms. A design that mixes classes or asks more than 64 atoms has none.
+/// The 16 rules of a design for a sequential datapath, in their order: each gate is its obligation at every pattern of
+/// bits of a control valuation. The fields come first, then the atoms. A design that mixes classes or has more than 64
+/// atoms has no rules.
 pub fn designed_rules<N: RuleFamily>(
     alloc: Global,
     variant: Variant,

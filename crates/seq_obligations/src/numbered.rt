@@ -1,4 +1,4 @@
-//! The rules of a sequential datapath in their order, from what each asks.
+//! The rules of a sequential datapath in their order, from the demand of each.
 ghost use Rattle.std.specs.Prelude.{◌≡◌, ◌≤◌, ◌||◌, not, ℕ, List, Bool, length, IfOk};
 ghost use Rattle.nets.specs.Nets.{ExtendsNet};
 ghost use Rattle.ctl_atoms.specs.declared.leaf.Leaf.{Leaf};
@@ -20,28 +20,29 @@ use nets::NetBuilder;
 use std::alloc::Global;
 use y86_base::Memory;
 
-/// How many rules a sequential datapath has.
+/// The number of rules of a sequential datapath.
 pub const RULE_COUNT: u32 = 16;
 
-/// What the rules of a datapath ask by their numbers, and of which valuations, over its table and the fields of a valuation.
+/// The demands of a datapath's rules, by their numbers, and the valuations to which they apply, over its table and the
+/// fields of a valuation.
 pub trait RuleFamily {
-    /// The valuations of which they ask something.
+    /// The valuations to which the rules apply.
     ghost may: { Self → List Bool → Assignment → (ℕ → Leaf) → Bool };
 
-    /// What the rule of a number asks.
+    /// The demand of the rule with this number.
     ghost asks: { Self → ℕ → List Bool → Assignment → (ℕ → Leaf) → Bool };
 
-    /// The fields are among so many variables, and the signals have control values.
+    /// In a net with this number of variables, the fields are among them, and the signals have control values.
     ghost knows: { Self → ℕ → List Entry → Type 0 };
 
-    /// The table of signals, the places of the signals that are fields, and how many bits the fields have together.
+    /// The table of signals, the places of the signals that are fields, and the number of bits of all fields together.
     ghost rows: { List Row };
 
     ghost places: { List FieldPlace };
 
     ghost bits: { ℕ };
 
-    /// The number that bits give a signal which is a field.
+    /// The number that bits give a signal that is a field.
     ghost field: { List Bool → ℕ → ℕ };
 
     /// The table of signals.
@@ -52,19 +53,19 @@ pub trait RuleFamily {
     fn field_places(&self) -> &'static [Place]
         ensures { result.now ≡ places };
 
-    /// How many bits the fields have together.
+    /// The number of bits of all fields together.
     fn bit_count(&self) -> u32
         ensures size { result ≡ bits }
         ensures few { result ≤ 64 };
 
-    /// A gate of the valuations of which they ask something.
+    /// A gate that is true for the valuations to which the rules apply.
     fn fits(&self, b: &mut NetBuilder, ctl: &Controls) -> Result<u64, Memory>
         requires inside { IsInside b.old ctl.now }
         requires known { knows self.now b.old.vars ctl.now }
         ensures extends { ExtendsNet b.old b.new }
         ensures has_truth { IfOk result (λ g. IsControlGate b.new ctl.now g (may self.now)) };
 
-    /// A gate of what the rule of a number asks.
+    /// A gate of the demand of the rule with this number.
     fn demand(&self, b: &mut NetBuilder, ctl: &Controls, number: u32) -> Result<u64, Memory>
         requires inside { IsInside b.old ctl.now }
         requires known { knows self.now b.old.vars ctl.now }
@@ -80,7 +81,8 @@ pub trait RuleFamily {
     ghost spelt: { (w : List Bool) → Spells places w (field w) };
 }
 
-/// The rule of a number: it asks nothing of another valuation than these.
+/// The gate of the rule with this number: true if its demand is met, and at any valuation to which the rules don't
+/// apply.
 fn rule_told<N: RuleFamily>(
     b: &mut NetBuilder,
     ctl: &Controls,

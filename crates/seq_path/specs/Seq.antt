@@ -15,6 +15,7 @@ SeqMachine = MachineView Machine
 abbrev pub started : Variant → List Term → List ℕ → List ℕ → SeqMachine
 started = started_on seq_path
 
--- a call on the machine p that answers r and leaves the machine q: its state goes through one cycle of SEQ, and the rest stays
+-- a call on the machine p that returns r and leaves the machine q: its state goes through one cycle of SEQ, and the
+-- rest stays
 abbrev pub IsSeqCall : SeqMachine → Option Rec → SeqMachine → Type 0
 IsSeqCall = IsCall seq_path

@@ -10,14 +10,14 @@ ghost use Rattle.dp_signals.specs.SeqRun.{SeqRun};
 ghost use Rattle.dp_signals.specs.SeqTable.{seq_rows};
 ghost use Rattle.seq_path.specs.Calls.{CallsAreTheRun};
 
-/// Where a design has an order, the equations of a cycle have a solution, in every state. It is the only one by
-/// `dp_signals::law_of_solutions`.
+/// If a design has an order, the equations of a cycle have a solution in every state. By `dp_signals::law_of_solutions`
+/// it is the only one.
 pub fn law_of_solutions()
     ensures { (v : Variant) (s : Machine) (terms : List Term) (ids : List ℕ) →
         IsBound seq_rows terms → IsOrderOf seq_rows terms ids → (f : ℕ → ℕ) × SeqSolves v terms s f }
 {}
 
-/// Where a design has an order, it has exactly one run of each number of cycles on an image.
+/// If a design has an order, it has exactly one run of each number of cycles on an image.
 pub fn law_of_runs()
     ensures there { (v : Variant) (terms : List Term) (ids image : List ℕ) (k : ℕ) →
         IsBound seq_rows terms → IsOrderOf seq_rows terms ids → (t : Machine) × (records : List Rec) × SeqRun v terms image k t records }

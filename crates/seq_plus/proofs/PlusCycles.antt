@@ -1,4 +1,5 @@
--- A cycle of SEQ+ works on the machine at the PC that the file computes, and what its record says, under any file.
+-- Under any file, a cycle of SEQ+ works on the machine at the PC that the file computes, and its record reports what it
+-- changes.
 use Rattle.std.proofs.Common.{◌≡◌, ℕ, ◌==◌, Bool, true, false, cond, List, Option, Some, IfSome, refl, sym, ap, subst}
 use Rattle.y86_base.specs.Stat.{stat_of}
 use Rattle.y86_base.specs.declared.parts.Stat.{Stat}
@@ -17,7 +18,7 @@ use Rattle.seq_plus.specs.PlusRun.{IsPlusCycle}
 use Rattle.seq_plus.specs.Told.{TellsCycle}
 use Rattle.seq_plus.specs.declared.state.PlusState.{PlusState}
 
--- the state after a cycle with this status, where the cycle changes anything
+-- the state after a cycle with this status, if the cycle changes anything
 abbrev pub updated : PlusState → (ℕ → ℕ) → Stat → PlusState
 updated t f stat =
     record {
@@ -48,7 +49,7 @@ module _ (t : PlusState) (f : ℕ → ℕ) where
   normal_ifun true r e = rw e refl
   normal_ifun false r e = rw e refl
 
-  -- the record before it is brought to its normal form
+  -- the record before normalization
   abbrev raw : Rec
   raw =
       record {

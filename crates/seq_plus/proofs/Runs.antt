@@ -1,4 +1,4 @@
--- Where the obligations hold of a file, its runs are runs of instructions: the solved pc is the PC of the run.
+-- If a file meets the obligations, its runs are runs of instructions: the solved pc is the PC of the run.
 use Rattle.std.proofs.Common.{◌≡◌, ℕ, zero, suc, ◌<◌, ◌≤◌, inl, inr, Bool, true, false, not, ◌||◌, ◌==◌, cond, List, length, Option, Some, slice_get, refl, sym, ◌∙◌, ap, subst, arith}
 use Rattle.std.proofs.lemmas.Bool.{eqb-true, lt-ltb, ne_eqb, eq-eqb, and_from}
 use Rattle.std.specs.List.{AllByRecursion}
@@ -68,7 +68,7 @@ use Rattle.seq_plus.proofs.PlusCycles.{updated}
 use Rattle.seq_plus.proofs.PlusRows.{hardware_rows}
 use Rattle.seq_plus.specs.PlusLaws.{plus_lawful}
 
--- ---- the next PC of the instruction before
+-- ---- the next PC of the previous instruction
 
 goes : (v : Variant) (n : ℕ) → 1 ≤ n → n < length (rows v) → is_itself (row v n).next ≡ false
 goes v n le lt = by _ _ (next_at v n lt) (no_zero n le)
@@ -81,7 +81,7 @@ goes v n le lt = by _ _ (next_at v n lt) (no_zero n le)
     no_zero : (n : ℕ) → 1 ≤ n → (n == 0) ≡ false
     no_zero n le = ne_eqb n 0 (λ e. absurd (omega (arith, e, le)))
 
--- an instruction that goes on leaves its own PC out of account
+-- the next PC of an instruction that goes on doesn't depend on the PC itself
 any_pc : (t : NextPcColumn) (a b vp vc vm : ℕ) (c : Bool) → is_itself t ≡ false → next_address t a vp vc vm c ≡ next_address t b vp vc vm c
 any_pc Itself a b vp vc vm c e = cc
 any_pc Fall a b vp vc vm c e = refl
@@ -92,14 +92,15 @@ any_pc Loaded a b vp vc vm c e = refl
 abbrev next_of : Variant → PlusState → ℕ
 next_of v t = next_address (row v t.previous.icode).next 0 t.previous.val_p t.previous.val_c t.previous.val_m (set t.previous.cnd)
 
--- the state is that of the machine q of the run: its registers, flags, memory and status, and the PC that the instruction before leads to
+-- the state is that of the machine q of the run: its registers, flags, memory and status, and the PC to which the
+-- previous instruction leads
 record Related (v : Variant) (t : PlusState) (q : Machine) : Type 0 where
   machine : q ≡ at_pc t (next_of v t)
   from_one : 1 ≤ t.previous.icode
   within : t.previous.icode < length (rows v)
   small : t.previous.cnd < 2
 
--- what an icode is that is read and goes on
+-- the icode of an instruction that is read and goes on
 reads_code : (v : Variant) (n : ℕ) (read : Reading) → IsReading v read → n ≡ read.icode → (n == 15) ≡ false → (n == 0) ≡ false → (1 ≤ n) × (n < length (rows v))
 reads_code v n read h e k l = elim h.known [
   | inl lt ↦ (positive n l, omega (arith, e, lt))
@@ -207,7 +208,7 @@ module _ (v : Variant) (terms : List Term) (ids : List ℕ) (bound : IsBound plu
     stays : f name.Stat ≡ 1 → ((f name.imem_icode == 15) ≡ false) × ((f name.imem_icode == 0) ≡ false)
     stays e = icode_going controls.0 controls.1 e
 
-    -- ---- the state behind it
+    -- ---- the state after it
 
     pc_behind_is : f name.Stat ≡ 1 →
         next_address (row v (f name.icode)).next 0 (f name.valP) (f name.valC) (f name.valM) (set (f name.Cnd)) ≡ pc_behind v f

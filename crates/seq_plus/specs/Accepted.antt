@@ -1,4 +1,4 @@
--- What a checked HCL file for SEQ+ promises: the obligations hold of it, and its runs are runs of instructions.
+-- What a checked HCL file for SEQ+ promises: it meets the obligations, and its runs are runs of instructions.
 use Rattle.std.specs.Prelude.{◌≡◌, ℕ, ◌≤◌, true, List}
 use Rattle.y86_base.specs.declared.parts.Variant.{Variant}
 use Rattle.y86_isa.specs.Run.{IsImage, run, records}
@@ -16,14 +16,14 @@ use Rattle.seq_plus.specs.PlusRun.{PlusRun, PlusEndIs}
 use Rattle.seq_plus.specs.PlusTable.{plus_rows}
 use Rattle.seq_plus.specs.declared.state.PlusState.{PlusState}
 
--- each of the 16 obligations holds of every control valuation of the design: of all lines of fields, under every truth of the atoms, at
--- the control values that the design's terms then have
+-- each of the 16 obligations holds at every control valuation of the design: at all lines of fields, under every truth
+-- of the atoms, with the control values that the design's terms then have
 pub record AcceptedPlus (v : Variant) (terms : List Term) : Type 0 where
   pub holds : (i : ℕ) (c : Fields) (α : Assignment) (cv : ℕ → Leaf) → 1 ≤ i → i ≤ rule_count → InRange spots (numbers c) →
       AreControls plus_rows terms (number_of c) α cv → obligation v i c α cv ≡ true
 
--- on every image and for every number of cycles, the machine that the design's end tells is that of the instruction-level run, in all
--- registers, flags, memory, PC and status, and its records are that run's
+-- on every image and for every number of cycles, the machine reported at the design's end is that of the
+-- instruction-level run, in all registers, flags, memory, PC and status, and its records are that run's
 pub record RefinesPlus (v : Variant) (terms : List Term) : Type 0 where
   pub machine : (image : List ℕ) (k : ℕ) (t : PlusState) (rs : List Rec) (end : Machine) → IsImage image → PlusRun v terms image k t rs → PlusEndIs v terms t end → end ≡ run v image k
   pub told : (image : List ℕ) (k : ℕ) (t : PlusState) (rs : List Rec) → IsImage image → PlusRun v terms image k t rs → rs ≡ records v image k

@@ -1,4 +1,4 @@
--- The control valuation that a cycle of SEQ+ has.
+-- The control valuation of a cycle of SEQ+.
 use Rattle.std.specs.Prelude.{ℕ}
 use Rattle.y86_base.specs.Words.{set}
 use Rattle.y86_base.specs.declared.parts.Variant.{Variant}
@@ -10,10 +10,10 @@ use Rattle.seq_plus.specs.PlusEquations.{at_pc}
 use Rattle.seq_plus.specs.PlusNames as name
 use Rattle.seq_plus.specs.declared.state.PlusState.{PlusState}
 
--- the PC behind the instruction of the cycle
+-- the next PC of the cycle's instruction
 abbrev pub pc_behind : Variant → (ℕ → ℕ) → ℕ
 pc_behind v f = next_address (row v (f name.imem_icode)).next (f name.pc) (f name.valP) (f name.valC) (f name.valM) (set (f name.Cnd))
 
--- the lines of the cycle: what the instruction before left, and what the cycle reads at the PC that it computes
+-- the lines of the cycle: what the previous instruction left, and what the cycle reads at the PC that it computes
 abbrev pub fields_at : Variant → PlusState → (ℕ → ℕ) → Fields
 fields_at v t f = record { icode = t.previous.icode; cnd = t.previous.cnd; line = seq.fields_at name.plus v (at_pc t (f name.pc)) f }

@@ -1,4 +1,4 @@
--- What SEQ+'s rules stand on.
+-- The facts on which SEQ+'s rules depend.
 use Rattle.std.proofs.Common.{◌≡◌, ℕ, ◌+◌, ◌≤◌, IsTrue, Bool, true, List, refl, arith}
 use Rattle.dp_signals.specs.Tables.{constant_rows}
 use Rattle.dp_signals.specs.SequentialTables.{control_rows}

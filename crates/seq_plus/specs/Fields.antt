@@ -1,5 +1,5 @@
--- The lines P and S of a control valuation of SEQ+: what the instruction before left, and what one cycle reads, as numbers; and which of
--- them an instruction can have.
+-- The lines P and S of a control valuation of SEQ+: what the previous instruction left, and what one cycle reads, as
+-- numbers; and the lines that an instruction can have.
 use Rattle.std.specs.Prelude.{ℕ, Bool, ◌&&◌, List, ◌∷◌, length, get_or, nat_lt, drop}
 use Rattle.y86_base.specs.declared.parts.Variant.{Variant}
 use Rattle.y86_isa.specs.Table.{rows}
@@ -25,7 +25,7 @@ numbers c = c.icode ∷ c.cnd ∷ seq.numbers c.line
 abbrev pub fields_by : List ℕ → Fields
 fields_by xs = record { icode = get_or xs 0 0; cnd = get_or xs 1 0; line = seq.fields_by (drop 2 xs) }
 
--- the number that the lines give a signal which is a field, and 0 for any other
+-- the number that the lines give a signal that is a field, and 0 for any other
 abbrev pub number_of : Fields → ℕ → ℕ
 number_of c name = number_among spots (numbers c) name
 
@@ -33,11 +33,11 @@ number_of c name = number_among spots (numbers c) name
 unfoldable pub fields_of : List Bool → Fields
 fields_of w = fields_by (decoded spots 0 w)
 
--- of a table with so many rows, the icode is that of an instruction that goes on: any but halt
+-- the icode is that of an instruction that goes on, in a table with count rows: any but halt
 abbrev pub goes_on : ℕ → ℕ → Bool
 goes_on count icode = nat_lt 0 icode && nat_lt icode count
 
--- the lines are ones that a valuation of this instruction set can have: a cycle goes on only behind an instruction that does, with any
--- condition
+-- the lines are ones that a valuation of this instruction set can have: a cycle goes on only after an instruction that
+-- does, with any condition
 unfoldable pub allowed : Variant → Fields → Bool
 allowed v c = goes_on (length (rows v)) c.icode && seq.allowed v c.line

@@ -1,5 +1,5 @@
--- What an HCL file for SEQ+ has to ask at the lines of a valuation: the rules S1 to S15 of SEQ, over its own rows, and S16 of the PC that
--- it computes as the cycle begins.
+-- What an HCL file for SEQ+ has to meet at the lines of a valuation: the rules S1 to S15 of SEQ, over its own rows, and
+-- S16 for the PC that it computes as the cycle begins.
 use Rattle.std.specs.Prelude.{ℕ, Bool, not, ◌||◌, ◌==◌, if◌then◌else◌}
 use Rattle.y86_base.specs.declared.parts.Variant.{Variant}
 use Rattle.y86_isa.specs.Table.{row}
@@ -16,12 +16,12 @@ use Rattle.seq_plus.specs.PlusNames as signal
 abbrev pub signals : SignalRows
 signals = signal.plus
 
--- S16: the PC picks where the instruction before, of this icode, leads: its constant for a call, and for a jump where its condition held;
--- the word that a ret loaded; else the address behind it
+-- S16: the PC picks the address to which the previous instruction, of this icode, leads: its constant for a call, and
+-- for a jump whose condition held; the word that a ret loaded; else the address after it
 abbrev pub next_demand : Variant → Fields → (ℕ → Leaf) → Bool
 next_demand v c cv = picks_some_leaf cv signal.pc (next_leaf (row v c.icode).next signal.pValP signal.pValC signal.pValM (set c.cnd))
 
--- what rule i asks
+-- the demand of rule i
 unfoldable pub demand_at : Variant → ℕ → Fields → Assignment → (ℕ → Leaf) → Bool
 demand_at v i c α cv = if i == 16 then next_demand v c cv else shared_demand signals i (row v c.line.icode) c.line α cv
 

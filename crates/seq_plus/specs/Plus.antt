@@ -1,4 +1,4 @@
--- A machine of SEQ+ as its callers see it, and the run that calls of `cycle` are.
+-- A machine of SEQ+ as its callers see it, and the run of its calls of `cycle`.
 use Rattle.std.specs.Prelude.{◌≡◌, ℕ, List}
 use Rattle.y86_base.specs.declared.parts.Variant.{Variant}
 use Rattle.y86_isa.specs.declared.machine.Rec.{Rec}
@@ -15,11 +15,12 @@ PlusMachine = MachineView PlusState
 abbrev pub started : Variant → List Term → List ℕ → List ℕ → PlusMachine
 started = started_on plus_path
 
--- q is the machine after k calls on p, and these are the records that they answered, the first one first
+-- q is the machine after k calls on p, and these are the records that they returned, the first one first
 abbrev pub PlusCalls : PlusMachine → ℕ → PlusMachine → List Rec → Type 0
 PlusCalls = CallsOn plus_path
 
--- k calls on a machine that began on an image are the run of k cycles: its state and its records. A call after the end does nothing.
+-- k calls on a machine that began on an image are the run of k cycles, with the same state and records. A call after
+-- the end does nothing.
 pub record IsRun (v : Variant) (terms : List Term) (image : List ℕ) (k : ℕ) (q : PlusMachine) (records : List Rec) : Type 0 where
   pub same_variant : q.variant ≡ v
   pub same_terms : q.terms ≡ terms

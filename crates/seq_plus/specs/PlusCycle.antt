@@ -12,8 +12,8 @@ use Rattle.seq_plus.specs.declared.state.PreviousInstruction.{PreviousInstructio
 abbrev pub previous_of : (ℕ → ℕ) → PreviousInstruction
 previous_of f = record { icode = f row.icode; cnd = f row.Cnd; val_m = f row.valM; val_c = f row.valC; val_p = f row.valP }
 
--- the state after a cycle whose Stat is AOK: all is read as the cycle begins, dstE is written before dstM, and all changes at once. With
--- another Stat nothing changes but the status.
+-- the state after a cycle whose Stat is AOK: all is read as the cycle begins, dstE is written before dstM, and all
+-- changes at once. With another Stat, only the status changes.
 unfoldable pub plus_next : PlusState → (ℕ → ℕ) → PlusState
 plus_next t f =
     if f row.Stat == 1 then

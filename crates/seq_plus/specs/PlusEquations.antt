@@ -11,11 +11,11 @@ use Rattle.dp_sequential.specs.Cycle.{block_by}
 use Rattle.seq_plus.specs.PlusNames as row
 use Rattle.seq_plus.specs.declared.state.PlusState.{PlusState}
 
--- the machine that a state is at a PC
+-- the machine that a state gives at a PC
 abbrev pub at_pc : PlusState → ℕ → Machine
 at_pc t pc = record { regs = t.regs; flags = t.flags; pc = pc; stat = t.stat; mem = t.mem }
 
--- what the instruction before left, and what is given as a cycle begins: the constants, and that
+-- what the previous instruction left, and the values given as a cycle begins: the constants and these words
 abbrev pub plus_words : PlusState → List ℕ
 plus_words t = t.previous.icode ∷ t.previous.cnd ∷ t.previous.val_m ∷ t.previous.val_c ∷ t.previous.val_p ∷ []
 
@@ -26,7 +26,7 @@ plus_given t = constants ++ plus_words t
 unfoldable pub plus_block : Variant → PlusState → ℕ → (ℕ → ℕ) → ℕ
 plus_block v t n f = block_by row.plus v (at_pc t (f row.pc)) n f
 
--- what the equation of row n says
+-- the value that the equation of row n demands
 abbrev pub plus_rule : Variant → List Term → PlusState → ℕ → (ℕ → ℕ) → ℕ
 plus_rule v terms t = rule_of (plus_given t) row.pc (plus_block v t) terms
 

@@ -13,7 +13,8 @@ use Rattle.seq_plus.specs.PlusNames as row
 use Rattle.seq_plus.specs.PlusTable.{plus_rows}
 use Rattle.seq_plus.specs.declared.state.PlusState.{PlusState}
 
--- the state as the first cycle begins: as behind a nop whose successor stands at 0; the rest is as at the level of instructions
+-- the state as the first cycle begins: as after a nop that is followed by address 0; the rest is as at the level of
+-- instructions
 abbrev pub plus_start : List ℕ → PlusState
 plus_start image =
     record {
@@ -53,12 +54,12 @@ IsPlusCycle = IsCycle plus_path
 abbrev pub PlusRunFrom : Variant → List Term → PlusState → ℕ → PlusState → List Rec → Type 0
 PlusRunFrom v terms = IsAfter (IsPlusCycle v terms)
 
--- the signal pc in a state: that of values which solve the equations of a cycle that begins in it
+-- the signal pc in a state: by values which solve the equations of a cycle that begins in that state
 abbrev pub PcIs : Variant → List Term → PlusState → ℕ → Type 0
 PcIs v terms t pc = (f : ℕ → ℕ) × PlusSolves v terms t f × (f row.pc ≡ pc)
 
--- The machine that the end tells: its PC is the signal pc in the state reached. Where a cycle stopped, it is the one of that cycle, since
--- nothing that a signal reads has changed.
+-- The machine reported at the end: its PC is the signal pc in the state reached. If a cycle stopped, this is the PC of
+-- that cycle, since nothing that a signal reads has changed.
 abbrev pub PlusEndIs : Variant → List Term → PlusState → Machine → Type 0
 PlusEndIs v terms t end = (pc : ℕ) × PcIs v terms t pc × (end ≡ at_pc t pc)
 

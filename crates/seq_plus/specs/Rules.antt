@@ -16,7 +16,8 @@ use Rattle.seq_plus.specs.Obligations.{obligation, signals}
 use Rattle.seq_plus.specs.PlusNames as signal
 use Rattle.seq_plus.specs.PlusTable.{plus_rows}
 
--- what the gates of the rules stand on: the fields are among the variables, and the signals that the rules ask have control values
+-- the facts on which the gates of the rules depend: the fields are among the variables, and the signals that the rules
+-- use have control values
 pub record IsPlusReady (vars : ℕ) (ctl : List Entry) : Type 0 where
   pub shared : IsReady signals plus_line vars ctl
   pub code : p_cnd.first + p_cnd.bits ≤ vars

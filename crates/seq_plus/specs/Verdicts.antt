@@ -13,18 +13,19 @@ use Rattle.seq_plus.specs.PlusTable.{plus_rows}
 use Rattle.seq_plus.specs.declared.verdict.Plain16.{Plain16}
 use Rattle.seq_plus.specs.declared.verdict.Plain16.TheVariants.{Yes, No}
 
--- what SEQ+ asks of a design
+-- the obligations of SEQ+ on a design
 abbrev pub plus_questions : Variant → ObligationSet
 plus_questions v = record { rows = plus_rows; spots = spots; count = rule_count; asks = λ i xs α cv. obligation v i (fields_by xs) α cv }
 
--- no definition of the design mixes codes with words, it has at most 64 atoms, and every obligation holds of every valuation
+-- no definition of the design mixes codes with words, it has at most 64 atoms, and every obligation holds at every
+-- valuation
 pub record AcceptsPlus (v : Variant) (terms : List Term) : Type 0 where
   pub atoms : List Atom
   pub are : AreAtoms plus_rows terms atoms
   pub holds : AcceptedPlus v terms
 
--- so much is true of its definitions and atoms, but an obligation is false of some valuation: of those the first, and the least
--- valuation of which it is
+-- no definition of the design mixes codes with words and it has at most 64 atoms, but an obligation is false at some
+-- valuation: rule is the first such obligation, and w the least valuation at which it is false
 pub record RejectsPlus (v : Variant) (terms : List Term) (rule : ℕ) (w : List Bool) : Type 0 where
   pub atoms : List Atom
   pub are : AreAtoms plus_rows terms atoms

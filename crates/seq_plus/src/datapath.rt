@@ -10,7 +10,7 @@ use y86_base::{Image, Stat};
 use y86_isa::Machine;
 use yis_run::End;
 
-/// How many rows the table has.
+/// The number of rows in the table.
 pub const PLUS_ROWS: usize = row::COUNT as usize;
 
 impl Sequential for PlusState {
@@ -33,7 +33,7 @@ impl Sequential for PlusState {
 
     ghost first = { refl };
 
-    /// As after a nop whose successor is at 0.
+    /// The state as after a nop that is followed by address 0.
     fn start(mem: Image) -> PlusState {
         let Machine {
             regs,
@@ -79,7 +79,7 @@ impl Sequential for PlusState {
         values[row::P_VAL_P as usize] = p.val_p;
     }
 
-    /// An instruction is fetched behind the one before more often than not.
+    /// Most instructions are fetched from the address after the previous instruction.
     #[inline(always)]
     fn likely_pc(&self) -> u64 {
         self.previous.val_p

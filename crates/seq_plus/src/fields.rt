@@ -11,8 +11,8 @@ use seq_obligations::{P_CND, P_ICODE, PLUS_LINE, line_places, line_spots};
 static SPOTS: [FieldSpec; 9] =
     line_spots!([P_ICODE => row::P_ICODE, P_CND => row::P_CND], PLUS_LINE, PLUS);
 
-/// The fields of a valuation in the order of its variables, those of the line P first: their bits, and the rows of SEQ+'s
-/// table that they are.
+/// The fields of a valuation in the order of its variables, those of the line P first: their bits, and the rows of
+/// their signals in SEQ+'s table.
 pub fn spots() -> &'static [FieldSpec]
     ensures { result.now ≡ spec.spots }
 {
@@ -22,7 +22,7 @@ pub fn spots() -> &'static [FieldSpec]
 static PLACES: [Place; 9] =
     line_places!([P_ICODE => row::P_ICODE, P_CND => row::P_CND], PLUS_LINE, PLUS);
 
-/// The places of the signals that are fields, as the translation of a design asks for them.
+/// The places of the signals that are fields, in the form that the translation of a design uses.
 pub(crate) fn places() -> &'static [Place]
     ensures { result.now ≡ places }
 {

@@ -18,7 +18,7 @@ pub fn law_of_table()
     ensures { IsSound plus_rows }
 {}
 
-/// Where a design has an order, the equations of a cycle have exactly one solution.
+/// If a design has an order, the equations of a cycle have exactly one solution.
 pub fn law_of_solutions()
     ensures there { (v : Variant) (s : PlusState) (terms : List Term) (ids : List ℕ) →
         IsBound plus_rows terms → IsOrderOf plus_rows terms ids → (f : ℕ → ℕ) × PlusSolves v terms s f }
@@ -27,7 +27,7 @@ pub fn law_of_solutions()
         (f h : ℕ → ℕ) → PlusSolves v terms s f → PlusSolves v terms s h → (n : ℕ) → f n ≡ h n }
 {}
 
-/// Where a design has an order, it has exactly one run of each number of cycles on an image.
+/// If a design has an order, it has exactly one run of each number of cycles on an image.
 pub fn law_of_runs()
     ensures there { (v : Variant) (terms : List Term) (ids image : List ℕ) (k : ℕ) →
         IsBound plus_rows terms → IsOrderOf plus_rows terms ids → (t : PlusState) × (records : List Rec) × PlusRun v terms image k t records }
@@ -36,8 +36,9 @@ pub fn law_of_runs()
         PlusRun v terms image k t rs → PlusRun v terms image k u xs → (t ≡ u) × (rs ≡ xs) }
 {}
 
-/// Under any HCL file the record of a cycle says all that the cycle changed: memory by its store alone, registers by its two destinations,
-/// that of valM last. Its address, icode and ifun are the values of the signals `pc`, `icode` and `ifun`.
+/// Under any HCL file the record of a cycle reports everything that the cycle changed: the memory by its store alone,
+/// the registers by its two destinations, dstM last. Its address, icode and ifun are the values of the signals `pc`,
+/// `icode` and `ifun`.
 pub fn law_of_plus_cycles()
     ensures { (v : Variant) (terms : List Term) (s : PlusState) (r : Option Rec) (t : PlusState) → IsPlusCycle v terms s r t →
         IfSome r (λ x. (f : ℕ → ℕ) × PlusSolves v terms s f × TellsCycle s t f x) }
@@ -49,8 +50,8 @@ pub fn law_of_calls()
     ensures { CallsAreTheRun }
 {}
 
-/// A design for SEQ+ whose obligations hold of every control valuation runs as the instructions do: on every image, for every
-/// number of cycles.
+/// A design for SEQ+ that meets its obligations at every control valuation runs as the instructions do: on every image,
+/// for every number of cycles.
 #[tactic(auto, using(crate::proofs::Runs::refines))]
 pub fn law_of_refinement()
     ensures { (v : Variant) (terms : List Term) (ids : List ℕ) → IsBound plus_rows terms → IsOrderOf plus_rows terms ids → AcceptedPlus v terms → RefinesPlus v terms }

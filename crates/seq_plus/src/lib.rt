@@ -1,6 +1,6 @@
-//! SEQ+, the sequential datapath that computes the PC as a cycle begins, from what the previous instruction left
-//! (CS:APP 3e, section 4.5.1): its table of signals, its machine, its 16 rules, and the verdict on a design, whose Yes
-//! is a theorem about the machine.
+//! SEQ+, the sequential datapath that computes the PC as a cycle begins, from the values that the previous instruction
+//! left (CS:APP 3e, section 4.5.1): its table of signals, its machine, its 16 rules, and the verdict on a design. By a
+//! theorem, the machine of an accepted design runs as the instructions do.
 #![tactic(auto)]
 
 mod datapath;

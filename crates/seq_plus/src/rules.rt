@@ -34,7 +34,7 @@ use std::alloc::Global;
 use y86_base::{Memory, Variant};
 use y86_isa::{Row, icode_count};
 
-/// The PC is the one behind the instruction before, by the row of its icode.
+/// The PC is the next PC of the previous instruction, by the row of its icode.
 #[derive(Clone, Copy, Debug)]
 struct NextPc;
 
@@ -60,7 +60,7 @@ impl RowGates for NextPc {
     }
 }
 
-/// The code is that of an instruction that goes on.
+/// The icode of the previous instruction is that of an instruction that goes on.
 #[tactic(auto, using(nets::proofs::Truths::begins_more))]
 fn code_allowed(b: &mut NetBuilder, v: Variant) -> Result<u64, Memory>
     requires { p_cnd.first + p_cnd.bits ≤ b.old.vars }
@@ -132,7 +132,8 @@ impl RuleFamily for PlusRules {
 }
 
 /// The 16 rules of a design for SEQ+, in their order: each gate is its obligation at every pattern of bits of a control
-/// valuation. The fields stand first, then the atoms. A design that mixes classes or asks more than 64 atoms has none.
+/// valuation. The fields come first, then the atoms. A design that mixes classes or has more than 64 atoms has no
+/// rules.
 pub fn plus_rules(
     alloc: Global,
     variant: Variant,

@@ -1,8 +1,8 @@
-//! The state of SEQ+.
+//! The state of SEQ+, which holds values of the previous instruction in place of the PC.
 use y86_base::{Flags, Image, Regs, Stat};
 
-/// What an instruction leaves for the PC of the next one: its icode, its condition (0 or 1), the word that it loaded, its
-/// constant, and the address behind it.
+/// The values that an instruction leaves for the PC of the next one: its icode, its condition (0 or 1), the word that
+/// it loaded, its constant, and the address after it.
 #[derive(Clone, Copy, Debug, PartialEq, Eq)]
 pub struct PreviousInstruction {
     pub icode: u64,
@@ -12,7 +12,8 @@ pub struct PreviousInstruction {
     pub val_p: u64,
 }
 
-/// The state of SEQ+ as a cycle begins. No PC is in it: the signal `pc` is computed from the previous instruction's values.
+/// The state of SEQ+ as a cycle begins. It has no PC: the signal `pc` is computed from the previous instruction's
+/// values.
 #[derive(Drop)]
 pub struct PlusState {
     pub previous: PreviousInstruction,

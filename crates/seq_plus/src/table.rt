@@ -1,4 +1,4 @@
-//! SEQ+'s table of signals.
+//! SEQ+'s table of signals, to which an HCL file for SEQ+ is bound.
 ghost use Rattle.std.specs.Prelude.{◌≡◌, IfOk};
 ghost use Rattle.seq_plus.specs.PlusTable as spec;
 

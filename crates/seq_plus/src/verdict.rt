@@ -14,8 +14,8 @@ use nets::Valuation;
 use std::alloc::Global;
 use y86_base::{Items, Memory, Variant};
 
-/// Whether every rule holds of a design, and if not, the number of the first that doesn't, with the least valuation of
-/// which it is false, and the design's atoms.
+/// Whether a design meets every rule, and if not, the number of the first rule that it doesn't meet, with the least
+/// valuation at which that rule is false, and the design's atoms.
 #[derive(Debug, PartialEq, Drop)]
 pub enum Plain16 {
     Yes,
@@ -26,8 +26,8 @@ pub enum Plain16 {
     },
 }
 
-/// The verdict on an HCL file for SEQ+. Where it is yes, the file's machine runs as the instructions do: on every
-/// image, for every number of cycles.
+/// The verdict on an HCL file for SEQ+. If it is yes, the file's machine runs as the instructions do: on every image,
+/// for every number of cycles.
 pub fn check_plus(
     alloc: Global,
     variant: Variant,

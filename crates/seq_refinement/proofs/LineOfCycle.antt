@@ -1,4 +1,4 @@
--- The line of a cycle and its signals, where the design asks what the obligations ask.
+-- The line of a cycle and its signals, for a design that meets the obligations.
 use Rattle.std.proofs.Common.{◌≡◌, ℕ, ◌≤◌, Bool, true, false, cond, List, refl, sym, ap, ◌∙◌, arith}
 use Rattle.y86_base.specs.Words.{set}
 use Rattle.y86_base.specs.declared.parts.Variant.{Variant}

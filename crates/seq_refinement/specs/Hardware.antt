@@ -1,4 +1,4 @@
--- The equations of the hardware in a cycle on the machine m, by the names of its signals, which stand at the rows r.
+-- The equations of the hardware in a cycle on the machine m, by the names of its signals, which have the rows r.
 use Rattle.std.specs.Prelude.{◌≡◌, ℕ}
 use Rattle.y86_base.specs.Registers.{register}
 use Rattle.y86_base.specs.Words.{set}

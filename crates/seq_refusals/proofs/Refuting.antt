@@ -35,7 +35,7 @@ use Rattle.seq_diagnosis.specs.declared.refusal.Refutation.{Refutation}
 use Rattle.seq_refusals.specs.Answered.{Accepts, AreRefuted, Everywhere, IsRefutation, Refines, Rejects, is_refuted}
 use Rattle.seq_refusals.specs.Failures.{AreRulesOf, IsFailure}
 
--- the rules as those of the datapath's questions
+-- the rules as those of the datapath's obligations
 own_rules : (which : Datapath) (v : Variant) (terms : List Term) (net : Gates) (list : List Rule) → AreRulesOf which v terms net list → AreRulesOfSet (questions_of which v) terms net list
 unfolding seq_fields_of plus_fields_of
 own_rules Seq v terms net list r =
@@ -43,7 +43,7 @@ own_rules Seq v terms net list r =
 own_rules Plus v terms net list r =
     record { atoms = r.atoms; are = r.are; vars = r.vars; count = r.count; each = λ k x e. record { number = (r.each k x e).number; within = (r.each k x e).within; is = (r.each k x e).is } }
 
--- the questions of obligation i alone
+-- obligation i alone
 abbrev only : ObligationSet → ℕ → ObligationSet
 only q i = record { rows = q.rows; spots = q.spots; count = 1; asks = λ n xs α cv. q.asks i xs α cv }
 
@@ -194,7 +194,7 @@ module _ (which : Datapath) (v : Variant) (terms : List Term) (net : Gates) (lis
     abbrev Refuted : ℕ → List Refutation → Type 0
     Refuted until all = AreRefuted which v terms atoms until all
 
-    -- the next rule holds
+    -- the next rule is true everywhere
     pub next_holds : (k : ℕ) (all : List Refutation) (r : Rule) → slice_get list k ≡ Some r → IsAlwaysTrue net r.gate → Refuted k all → Refuted (k + 1) all
     next_holds k all r at always told = record { each = told.each; rising = rise_on (λ (y : Refutation). y.rule) 0 k (k + 1) all (omega arith) told.rising; others = λ i l le none. by i l le none (cases_lt k i) }
       where
@@ -214,7 +214,7 @@ module _ (which : Datapath) (v : Variant) (terms : List Term) (net : Gates) (lis
         by i l le none (inr before) = told.others i l before none.0
         by i l le none (inl behind) = absurd (false≢true (sym none.1 ∙ is_own x.rule (k + 1) i is (omega (arith, le, behind))))
 
-    -- the first that is false
+    -- the first false rule is refuted
     pub first_refuted : (failure : FailedRule) (x : Refutation) → IsRuleDecision net list (Some failure) → x.rule ≡ failure.rule → IsRefutation which v terms atoms x → Refuted x.rule (x ∷ [])
     first_refuted failure x d is it = record { each = (it, tt); rising = (omega (arith, number), omega (arith, number)); others = λ i l le none. by i l le none (cases_lt i x.rule) }
       where

@@ -1,4 +1,5 @@
--- The answer on a file for SEQ or SEQ+: the verdict, and of a refusal each obligation that is false somewhere with its least counterexample.
+-- The answer on a file for SEQ or SEQ+: the verdict, and for a refusal each obligation that is false somewhere, with
+-- its least counterexample.
 use Rattle.std.specs.Prelude.{ℕ, ◌+◌, ◌≡◌, ◌≤◌, ◌==◌, Bool, true, false, List, ◌∷◌, length}
 use Rattle.std.specs.List.{AllByRecursion}
 use Rattle.y86_base.specs.declared.parts.Variant.{Variant}
@@ -29,12 +30,12 @@ use Rattle.seq_refusals.specs.declared.answer.SeqAnswer.TheVariants.{Yes, No}
 
 -- ---- what `check seq` and `check seqplus` say
 
--- the design has control values, and every obligation holds of it
+-- the design has control values, and meets every obligation
 abbrev pub Accepts : Datapath → Variant → List Term → Type 0
 Accepts Seq v terms = AcceptsSeq v terms
 Accepts Plus v terms = AcceptsPlus v terms
 
--- the first obligation that is false of some valuation, and the least such valuation
+-- the first obligation that is false at some valuation, and the least such valuation
 abbrev pub Rejects : Datapath → Variant → List Term → ℕ → List Bool → Type 0
 Rejects Seq v terms i w = RejectsSeq v terms i w
 Rejects Plus v terms i w = RejectsPlus v terms i w
@@ -46,7 +47,7 @@ Refines Plus v terms = RefinesPlus v terms
 
 -- ---- all obligations that are false somewhere
 
--- obligation i holds of every valuation
+-- obligation i holds at every valuation
 abbrev pub Everywhere : Datapath → Variant → List Term → ℕ → Type 0
 Everywhere which v terms i =
     (xs : List ℕ) (α : Assignment) (cv : ℕ → Leaf) → InRange (spots_of which) xs → AreControls (rows_of which) terms (number_among (spots_of which) xs) α cv
@@ -63,7 +64,8 @@ pub record IsRefutation (which : Datapath) (v : Variant) (terms : List Term) (at
 abbrev pub is_refuted : ℕ → List Refutation → Bool
 is_refuted i all = some (λ (x : Refutation). x.rule == i) all
 
--- Of the obligations from 1 to `until` exactly these are false somewhere. Each occurs once, and they are in the order of their numbers.
+-- Exactly these of the obligations from 1 to `until` are false somewhere. Each occurs once, and they are in the order
+-- of their numbers.
 pub record AreRefuted (which : Datapath) (v : Variant) (terms : List Term) (atoms : List Atom) (until : ℕ) (all : List Refutation) : Type 0 where
   pub each : AllByRecursion (IsRefutation which v terms atoms) all
   pub rising : RiseWithin (λ (x : Refutation). x.rule) 0 until all

@@ -1,4 +1,4 @@
--- The rules of a sequential datapath as gates, and one that is false of some valuation.
+-- The rules of a sequential datapath as gates, and a rule that is false at some valuation.
 use Rattle.std.specs.Prelude.{◌≡◌, ℕ, false, List, slice_get, Some}
 use Rattle.y86_base.specs.declared.parts.Variant.{Variant}
 use Rattle.nets.specs.Nets.{Gates, truth}
@@ -16,7 +16,7 @@ abbrev pub AreRulesOf : Datapath → Variant → List Term → Gates → List Ru
 AreRulesOf Seq v terms net list = AreSeqRules v terms net list
 AreRulesOf Plus v terms net list = ArePlusRules v terms net list
 
--- a rule of the list is false of this valuation, and of none that is less
+-- a rule of the list is false at this valuation, and at no lesser one
 pub record IsFailure (net : Gates) (list : List Rule) (failure : FailedRule) : Type 0 where
   pub place : ℕ
   pub rule : Rule

@@ -27,7 +27,6 @@ pub enum SeqAnswer {
     No(Refusal),
 }
 
-/// The rules of a design.
 fn rules_of(
     alloc: Global,
     which: Datapath,
@@ -47,7 +46,7 @@ fn rules_of(
     }
 }
 
-/// Whether a rule is true of every valuation, and else the least of which it is false.
+/// `None` if a rule is true at every valuation, else the least valuation at which it is false.
 #[tactic(auto, using(crate::proofs::Refuting::one_gate))]
 fn decide_one(alloc: Global, net: &Net, rule: Rule) -> Result<Option<FailedRule>, Memory>
     requires { rule.gate < length net.now.gates }
@@ -57,7 +56,6 @@ fn decide_one(alloc: Global, net: &Net, rule: Rule) -> Result<Option<FailedRule>
     decide(alloc, net, &one)
 }
 
-/// The rule at a place.
 fn rule_at(list: &[Rule], k: usize) -> Rule
     requires { k < length list.now }
     ensures { slice_get list.now k ≡ Some result }
@@ -131,7 +129,7 @@ fn refute_at(
     }
 }
 
-/// Refutes the obligations behind the first false one.
+/// Refutes the false obligations after the first one.
 fn refute_others(
     alloc: Global,
     file: &SeqFile<'_>,
@@ -179,8 +177,9 @@ fn refuse(
     })
 }
 
-/// The verdict on a file for SEQ or SEQ+, and the diagnosis of a refusal. The verdict is that of `check_seq` or `check_plus`: where it is
-/// yes, the file's machine runs as the instructions do, on every image, for every number of cycles.
+/// The verdict on a file for SEQ or SEQ+, and the diagnosis of a refusal. The verdict is that of `check_seq` or
+/// `check_plus`: if it is yes, the file's machine runs as the instructions do, on every image, for every number of
+/// cycles.
 pub fn diagnose_seq(
     alloc: Global,
     which: Datapath,

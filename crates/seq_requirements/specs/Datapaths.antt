@@ -1,4 +1,5 @@
--- The two sequential datapaths: their tables, the fields of a valuation, and what their obligations ask of the numbers of the fields.
+-- The two sequential datapaths: their tables, the fields of a valuation, and what their obligations demand of the
+-- numbers of the fields.
 use Rattle.std.specs.Prelude.{ℕ, Bool, not, ◌||◌, List}
 use Rattle.y86_base.specs.declared.parts.Variant.{Variant}
 use Rattle.hcl_types.specs.declared.table.Row.{Row}
@@ -37,7 +38,7 @@ abbrev pub signals_of : Datapath → SignalRows
 signals_of Seq = seq_rule.seq_signals
 signals_of Plus = plus_rule.signals
 
--- the line S that the numbers of the fields are
+-- the line S with these numbers of the fields
 abbrev pub line_of : Datapath → List ℕ → seq.Fields
 line_of Seq xs = seq.fields_by xs
 line_of Plus xs = (plus.fields_by xs).line
@@ -47,12 +48,12 @@ abbrev pub allowed_of : Datapath → Variant → List ℕ → Bool
 allowed_of Seq v xs = seq.allowed v (seq.fields_by xs)
 allowed_of Plus v xs = plus.allowed v (plus.fields_by xs)
 
--- what obligation i asks where they are allowed
+-- what obligation i demands if they are allowed
 abbrev pub demand_of : Datapath → Variant → ℕ → List ℕ → Assignment → (ℕ → Leaf) → Bool
 demand_of Seq v i xs α cv = seq_rule.demand_at v i (seq.fields_by xs) α cv
 demand_of Plus v i xs α cv = plus_rule.demand_at v i (plus.fields_by xs) α cv
 
--- what the datapath asks of a design
+-- the obligations of the datapath on a design
 abbrev pub questions_of : Datapath → Variant → ObligationSet
 questions_of which v = record {
   rows = rows_of which;

@@ -1,4 +1,4 @@
--- The code's line S as that of the definitions.
+-- Turns the code's line S into that of the definitions.
 use Rattle.seq_obligations.specs.Fields.{Fields}
 use Rattle.seq_requirements.specs.declared.lines.LineNow.{LineNow}
 

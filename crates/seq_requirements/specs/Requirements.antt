@@ -1,5 +1,5 @@
 -- What the obligations of SEQ and SEQ+ require at a valuation, signal by signal.
--- An obligation is met exactly where each requirement is (`IsByRequirements`).
+-- An obligation is met exactly if each requirement is (`IsByRequirements`).
 use Rattle.std.specs.Prelude.{ℕ, ◌≡◌, Bool, ◌==◌, List, [], ◌∷◌, get_or, if◌then◌else◌}
 use Rattle.y86_base.specs.declared.parts.Variant.{Variant}
 use Rattle.y86_base.specs.Stat.{stat_number}
@@ -28,7 +28,7 @@ use Rattle.seq_requirements.specs.declared.datapath.Datapath.TheVariants.{Seq, P
 
 -- ---- the obligations that both datapaths share
 
--- the reading or the access faults
+-- the fetch or the data access faults
 abbrev pub faulted : Fields → Bool
 faulted c = seq_rule.faulted c
 
@@ -68,11 +68,11 @@ shared_requirements s i r c = get_or ([] ∷ shared_required s r c) i []
 
 -- ---- the PC, obligation 16 of each
 
--- SEQ: new_pc is where the instruction leads; one that faults needs none
+-- SEQ: new_pc is the address to which the instruction leads; one that faults needs none
 abbrev pub seq_next : Row → Fields → List Requirement
 seq_next r c = unless (faulted c) (some_word seq_row.new_pc (next_leaf r.next seq_row.valP seq_row.valC seq_row.valM (set c.cnd)))
 
--- SEQ+: pc is where the instruction before, of this icode and condition, leads
+-- SEQ+: pc is the address to which the previous instruction, of this icode and condition, leads
 abbrev pub plus_next : Variant → ℕ → ℕ → List Requirement
 plus_next v icode cnd = some_word plus_row.pc (next_leaf (row v icode).next plus_row.pValP plus_row.pValC plus_row.pValM (set cnd))
 
@@ -94,6 +94,6 @@ abbrev pub requirements : Datapath → Variant → List ℕ → ℕ → List Req
 requirements which v xs i =
     if i == 16 then next_requirements which v xs else shared_requirements (signals_of which) i (row_of which v xs) (line_of which xs)
 
--- obligation i is met exactly where each of its requirements is
+-- obligation i is met exactly if each of its requirements is
 abbrev pub IsByRequirements : Datapath → Variant → List ℕ → Assignment → (ℕ → Leaf) → ℕ → Type 0
 IsByRequirements which v xs α cv i = demand_of which v i xs α cv ≡ each (is_met α cv) (requirements which v xs i)

@@ -17,7 +17,7 @@ use y86_base::Memory;
 pub enum Datapath {
     /// SEQ, whose state holds the PC.
     Seq,
-    /// SEQ+, which computes the PC as a cycle begins, from what the instruction before left.
+    /// SEQ+, which computes the PC as a cycle begins, from the values that the previous instruction left.
     Plus,
 }
 
@@ -55,7 +55,7 @@ pub fn spots_of(which: Datapath) -> &'static [FieldSpec]
     }
 }
 
-/// How many bits the fields have together. The atoms of a valuation stand behind them.
+/// The number of bits of all fields together. The atoms of a valuation follow them.
 pub fn bit_count(which: Datapath) -> u32
     ensures { result ≡ total (spec.spots_of which) }
 {

@@ -6,7 +6,7 @@ ghost use Rattle.ctl_atoms.specs.Leaves.{Assignment};
 ghost use Rattle.seq_requirements.specs.Requirements.{IsByRequirements};
 ghost use Rattle.seq_requirements.specs.declared.datapath.Datapath.{Datapath as Which};
 
-/// Each obligation of SEQ and of SEQ+ is met at a valuation exactly where each of its requirements is.
+/// Each obligation of SEQ and of SEQ+ is met at a valuation exactly if each of its requirements is.
 pub fn law_of_requirements()
     ensures { (which : Which) (v : Variant) (xs : List ℕ) (α : Assignment) (cv : ℕ → Leaf) (i : ℕ) → IsByRequirements which v xs α cv i }
 {}

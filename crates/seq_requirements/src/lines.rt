@@ -22,14 +22,14 @@ pub struct LineNow {
     pub derror: u64,
 }
 
-/// The line P of SEQ+: what the instruction before left.
+/// The line P of SEQ+: what the previous instruction left.
 #[derive(Clone, Copy, Debug, PartialEq, Eq)]
 pub struct PreviousNow {
     pub icode: u64,
     pub cnd: u64,
 }
 
-/// The line S that bits spell, from one of them on.
+/// The line S that bits spell, from bit `first` on.
 #[tactic(auto, unfolding(seq_obligations::specs::Fields::line_at))]
 fn line_at(bits: &[bool], first: usize) -> LineNow
     requires { first ≤ 100 }

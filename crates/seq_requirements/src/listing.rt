@@ -21,7 +21,7 @@ use std::alloc::Global;
 use y86_base::{Memory, Variant};
 use y86_isa::{NextPcColumn, Row, has_operand_a, is_load, is_store, row};
 
-/// The word that the next PC is, by the column of the instruction.
+/// The source of the next PC, by the column of the instruction.
 fn next_leaf(
     next: NextPcColumn,
     val_p: NameId,
@@ -40,7 +40,7 @@ fn next_leaf(
     }
 }
 
-/// The reading or the access faults.
+/// The fetch or the data access faults.
 fn faulted(l: &LineNow) -> bool
     ensures { result ≡ spec.faulted (fields_in l.now) }
 {
@@ -122,7 +122,7 @@ fn put_shared(
     }
 }
 
-/// What obligation 16 of SEQ requires: the PC behind the instruction, unless a fault stops it.
+/// What obligation 16 of SEQ requires: the next PC, unless a fault stops the instruction.
 fn put_seq_next(out: &mut Vec<Requirement>, r: &Row, l: &LineNow) -> Result<(), Memory>
     ensures { OnOk result (out.new.items ≡ out.old.items ++ spec.seq_next r.now (fields_in l.now)) }
 {
@@ -139,7 +139,7 @@ fn put_seq_next(out: &mut Vec<Requirement>, r: &Row, l: &LineNow) -> Result<(), 
     put_some(out, seq_row::NEW_PC, leaf)
 }
 
-/// What obligation 16 of SEQ+ requires: the PC behind the instruction before.
+/// What obligation 16 of SEQ+ requires: the next PC of the previous instruction.
 fn put_plus_next(out: &mut Vec<Requirement>, v: Variant, icode: u64, cnd: u64) -> Result<(), Memory>
     ensures { OnOk result (out.new.items ≡ out.old.items ++ spec.plus_next v icode cnd) }
 {

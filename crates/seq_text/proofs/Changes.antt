@@ -1,4 +1,4 @@
--- What the lines of a cycle say of registers and memory is what the cycle changes.
+-- The lines of a cycle report exactly what it changes in registers and memory.
 use Rattle.std.proofs.Common.{◌≡◌, ℕ, Bool, true, false, ◌==◌, if◌then◌else◌, List, [], ◌++◌, Option, None, Some, refl, sym, ap, ◌∙◌}
 use Rattle.std.specs.Prelude.{is_some}
 use Rattle.std.proofs.lemmas.Option.{none-some}
@@ -28,7 +28,7 @@ use Rattle.seq_text.specs.Lines.{told_store, told_writes}
 use Rattle.seq_text.specs.Signals.{plus_signals, seq_signals}
 use Rattle.seq_text.specs.declared.signals.Signals.{Signals}
 
--- ---- of any machine, where a cycle with another status than AOK changes nothing
+-- ---- any machine in which a cycle with another status than AOK changes nothing
 
 stored_if : (b : Bool) (memory : List ℕ) (store : Option Store) → (if b then stored memory store else memory) ≡ stored memory (if b then store else None)
 unfolding stored

@@ -1,4 +1,4 @@
--- The machine that is watched is the machine of the run, by induction on the number of cycles.
+-- The observed machine is the machine of the run, by induction on the number of cycles.
 use Rattle.std.proofs.Common.{◌≡◌, ℕ, zero, suc, ◌+◌, ◌<◌, ◌≤◌, true, false, List, [], ◌∷◌, ◌++◌, length, Option, Some, Result, Ok, Err, IfOk, refl, sym, ◌∙◌, ap, subst, arith, add-one, length-append}
 use Rattle.y86_base.specs.declared.parts.Stat.{Stat}
 use Rattle.y86_base.specs.declared.parts.Variant.{Variant}
@@ -17,7 +17,7 @@ use Rattle.seq_text.specs.Laws.{PlusWatchesTheRun, SeqWatchesTheRun}
 use Rattle.pipe_stage_text.specs.Cycle.{end_line}
 use Rattle.seq_text.specs.Observer.{PlusShows, SeqShows, ShowsRun, Observes, ObservesTo, plus_stat, seq_stat, shown}
 
--- one more cycle of a machine that is watched
+-- another cycle of an observed machine
 pub watches_more : {S : Type 0} (Shows : S → List ℕ → S → Type 0) (stat : S → Stat) (window : CycleRange) (first : S) (k : ℕ) (u s : S) (before text lines : List ℕ) →
     Observes Shows stat window first k u before → is_aok (stat u) ≡ true → Shows u lines s → text ≡ before ++ shown window (k + 1) lines →
     Observes Shows stat window first (k + 1) s text
@@ -25,14 +25,14 @@ watches_more Shows stat window first k u s before text lines watches going shows
     subst (λ n. Observes Shows stat window first n s text) (sym (add-one k))
     (u, before, lines, watches, going, shows, e ∙ ap (λ n. before ++ shown window n lines) (add-one k))
 
--- what is shown of a run, where it went well
+-- the output of a run, if no error occurred
 pub shows_run : {S W E : Type 0} (Shows : S → List ℕ → S → Type 0) (stat : S → Stat) (window : CycleRange) (first : S) (limit k : ℕ) (s : S) (lines : List ℕ)
     (text : W → List ℕ) (end : W → Stat) (result : Result W E) → IfOk result (λ w. text w ≡ lines ++ end_line (stat s) k k) → IfOk result (λ w. end w ≡ stat s) →
     ObservesTo Shows stat window first limit k s lines → IfOk result (λ w. ShowsRun Shows stat window first limit (text w) (end w))
 shows_run Shows stat window first limit k s lines text end (Ok w) h h' to = (k, s, lines, to, h, h')
 shows_run Shows stat window first limit k s lines text end (Err e) h h' to = tt
 
--- at the end of the loop, and where it is left before
+-- at the end of the loop, and where it is left early
 pub at_limit : {S : Type 0} (Shows : S → List ℕ → S → Type 0) (stat : S → Stat) (window : CycleRange) (first : S) (limit k : ℕ) (s : S) (lines : List ℕ) →
     k ≡ limit → Observes Shows stat window first k s lines → ObservesTo Shows stat window first limit limit s lines
 at_limit Shows stat window first limit k s lines e h =
@@ -45,7 +45,7 @@ before_limit Shows stat window first limit k s lines lt h over = record { within
 longer : (records : List Rec) (r : Rec) (k : ℕ) → length records ≡ k → length (records ++ (r ∷ [])) ≡ suc k
 longer records r k e = length-append records (r ∷ []) ∙ ap (λ n. n + 1) e ∙ add-one k
 
--- where each cycle that is shown is one of the machine, which leaves a record
+-- each cycle that is shown is one of the machine, and leaves a record
 module _ {S : Type 0} (Shows : S → List ℕ → S → Type 0) (Cycle : S → Option Rec → S → Type 0) (stat : S → Stat)
     (one : (s : S) (lines : List ℕ) (t : S) → is_aok (stat s) ≡ true → Shows s lines t → (r : Rec) × Cycle s (Some r) t) where
   the_run : (window : CycleRange) (first : S) (k : ℕ) (s : S) (text : List ℕ) → Observes Shows stat window first k s text →

@@ -1,4 +1,4 @@
--- What is shown is the run of the machine, and what it says of changes and of the sources of words.
+-- The output shows the run of the machine, its changes, and the sources of words.
 use Rattle.std.specs.Prelude.{◌≡◌, ℕ, true, List, length, Some, is_some}
 use Rattle.std.specs.List.{AllByRecursion}
 use Rattle.y86_base.specs.Image.{word_at}

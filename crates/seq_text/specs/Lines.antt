@@ -1,4 +1,5 @@
--- The lines of one cycle of SEQ or SEQ+: a line for each stage (CS:APP 3e, figures 4.27 to 4.31), the flags, and what is written.
+-- The lines of one cycle of SEQ or SEQ+: a line for each stage (CS:APP 3e, figures 4.27 to 4.31), the flags, and the
+-- changes.
 use Rattle.std.specs.Prelude.{ℕ, true, ◌==◌, List, [], ◌++◌, codes, Option, None, if◌then◌else◌}
 use Rattle.y86_base.specs.Words.{set}
 use Rattle.y86_base.specs.declared.parts.Flags.{Flags}
@@ -96,7 +97,7 @@ pc_source key from = text_pair key from.pc
 unfoldable pub update_line : ℕ → Sources → List ℕ
 update_line new_pc from = word_pair (codes "P new_pc ") new_pc ++ (pc_source (codes " new_pc_from ") from ++ codes "\n")
 
--- SEQ+'s PC, from what the instruction before left
+-- SEQ+'s PC, from the values that the previous instruction left
 unfoldable pub previous_words : PreviousInstruction → List ℕ
 previous_words p =
     number_pair (codes "P pIcode ") p.icode
@@ -106,7 +107,7 @@ previous_words p =
 unfoldable pub choice_line : PreviousInstruction → ℕ → Sources → List ℕ
 choice_line p pc from = previous_words p ++ (word_pair (codes " pc ") pc ++ (pc_source (codes " pc_from ") from ++ codes "\n"))
 
--- ---- what is written, where Stat is AOK: dstE and then dstM, and the store
+-- ---- what is written if Stat is AOK: dstE and then dstM, and the store
 
 unfoldable pub told_writes : Signals → List (ℕ × ℕ)
 told_writes s = writes (s.stat == 1) s.dst_e s.val_e s.dst_m s.val_m

@@ -1,4 +1,4 @@
--- The run of a sequential machine, and what is shown of it, cycle by cycle.
+-- The run of a sequential machine, and its output, cycle by cycle.
 use Rattle.std.specs.Prelude.{◌≡◌, ℕ, zero, suc, ◌≤◌, ◌<◌, true, false, List, [], ◌++◌, codes, if◌then◌else◌}
 use Rattle.y86_base.specs.declared.parts.Stat.{Stat}
 use Rattle.y86_base.specs.declared.parts.Variant.{Variant}
@@ -21,7 +21,7 @@ use Rattle.pipe_stage_text.specs.declared.observer.CycleRange.{CycleRange}
 use Rattle.seq_text.specs.Lines.{choice_line, stage_lines, state_lines, update_line}
 use Rattle.seq_text.specs.Signals.{Sources, plus_signals, plus_sources, seq_signals, seq_sources}
 
--- ---- a cycle, of a state with f for the value of each signal, and what the picks of the file tell of it
+-- ---- a cycle of a state, with f for the value of each signal, and the sources that the picks of the file give
 
 unfoldable pub seq_lines : Machine → (ℕ → ℕ) → Sources → List ℕ
 seq_lines s f from =
@@ -46,26 +46,27 @@ seq_stat s = s.stat
 abbrev pub plus_stat : PlusState → Stat
 plus_stat s = s.stat
 
--- ---- a run of either, where Shows says what a cycle does and shows, and stat is the status of a state
+-- ---- a run of either machine: Shows says what a cycle does and prints, and stat is the status of a state
 
--- what is shown of the cycle of this number
+-- the output for the cycle with this number
 unfoldable pub shown : CycleRange → ℕ → List ℕ → List ℕ
 shown window number lines = if is_within window number then number_pair (codes "cycle ") number ++ (codes "\n" ++ lines) else []
 
--- s is the state k cycles after first, before each of which the machine had not ended, and text is what is shown of them
+-- s is the state k cycles after first, before each of which the machine had not ended, and text is their output
 abbrev pub Observes : {S : Type 0} → (S → List ℕ → S → Type 0) → (S → Stat) → CycleRange → S → ℕ → S → List ℕ → Type 0
 Observes Shows stat window first zero s text = (s ≡ first) × (text ≡ [])
 Observes {S} Shows stat window first (suc k) s text =
     (u : S) × (before : List ℕ) × (lines : List ℕ) × Observes Shows stat window first k u before × (is_aok (stat u) ≡ true) × Shows u lines s
     × (text ≡ before ++ shown window (suc k) lines)
 
--- the same at its end, or at the limit of cycles where it has none before
+-- s is the state k cycles after first, at the machine's end or at the limit of cycles, and text is the output of the
+-- cycles
 pub record ObservesTo {S : Type 0} (Shows : S → List ℕ → S → Type 0) (stat : S → Stat) (window : CycleRange) (first : S) (limit k : ℕ) (s : S) (text : List ℕ) : Type 0 where
   pub within : k ≤ limit
   pub watches : Observes Shows stat window first k s text
   pub whole : k < limit → is_aok (stat s) ≡ false
 
--- the text and the end of a run: what is shown of its cycles, and the line of the end; each cycle is an instruction
+-- the text and the end of a run: the output for its cycles, and the line of the end; each cycle is an instruction
 abbrev pub ShowsRun : {S : Type 0} → (S → List ℕ → S → Type 0) → (S → Stat) → CycleRange → S → ℕ → List ℕ → Stat → Type 0
 ShowsRun {S} Shows stat window first limit text end =
     (k : ℕ) × (s : S) × (lines : List ℕ) × ObservesTo Shows stat window first limit k s lines × (text ≡ lines ++ end_line (stat s) k k) × (end ≡ stat s)

@@ -10,7 +10,7 @@ use Rattle.pipe_stage_text.specs.Sources.{source}
 use Rattle.seq_text.specs.declared.signals.Signals.{Signals}
 use Rattle.seq_text.specs.declared.signals.Sources as code
 
--- the signals that stand at these rows
+-- the signals, if they have these rows
 abbrev pub signals_by : SignalRows → (ℕ → ℕ) → Signals
 signals_by r f =
     record {
@@ -54,7 +54,7 @@ seq_signals f = signals_by seq_at f
 unfoldable pub plus_signals : (ℕ → ℕ) → Signals
 plus_signals f = signals_by plus.plus f
 
--- the names that the definitions of aluA, aluB, mem_addr, mem_data, and of new_pc or pc pick, as they are told
+-- the names that the definitions of aluA, aluB, mem_addr, mem_data, and of new_pc or pc pick, as they are printed
 pub record Sources : Type 0 where
   pub alu_a : List ℕ
   pub alu_b : List ℕ

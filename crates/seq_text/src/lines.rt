@@ -197,7 +197,7 @@ pub(crate) fn put_stages(
     put_write(out, s)
 }
 
-/// Puts where the PC comes from, behind a key.
+/// Puts the source of the PC, after a key.
 fn put_pc_source(out: &mut Vec<u8>, key: &[u8], sources: &Sources<'_>) -> Result<(), Memory>
     ensures { OnOk result (out.new.items ≡ out.old.items ++ text.pc_source key.now (sources_in sources.now)) }
 {
@@ -229,7 +229,7 @@ fn put_previous(out: &mut Vec<u8>, p: PreviousInstruction) -> Result<(), Memory>
     put_word_pair(out, b" pValP ", p.val_p)
 }
 
-/// Puts the line of SEQ+'s PC, which it computes from what the instruction before left.
+/// Puts the line of SEQ+'s PC, which it computes from the values that the previous instruction left.
 #[tactic(auto, unfolding(crate::specs::Lines::choice_line))]
 pub(crate) fn put_choice(
     out: &mut Vec<u8>,
@@ -253,7 +253,7 @@ fn put_registers(out: &mut Vec<u8>, s: &Signals) -> Result<(), Memory>
     put_writes(out, s.stat == AOK, s.dst_e, s.val_e, s.dst_m, s.val_m)
 }
 
-/// What is stored at the end of the cycle.
+/// The store at the end of the cycle, if there is one.
 #[tactic(auto, unfolding(crate::specs::Lines::told_store))]
 fn store_of(s: &Signals) -> Option<Store>
     ensures { result ≡ text.told_store s.now }
@@ -264,7 +264,7 @@ fn store_of(s: &Signals) -> Option<Store>
     data_store(s.mem_addr, s.mem_data, s.mem_write != 0, s.dmem_error != 0)
 }
 
-/// Puts the lines of the flags as the cycle begins, and of what is written at its end.
+/// Puts the lines of the flags as the cycle begins, and of the changes at its end.
 #[tactic(auto, unfolding(crate::specs::Lines::state_lines))]
 pub(crate) fn put_state(out: &mut Vec<u8>, flags: Flags, s: &Signals) -> Result<(), Memory>
     ensures { OnOk result (out.new.items ≡ out.old.items ++ text.state_lines flags s.now) }

@@ -1,4 +1,4 @@
-//! The run of SEQ+, and what is shown of it.
+//! The run of SEQ+, and its output.
 ghost use Rattle.std.specs.Prelude.{◌≡◌, ◌≤◌, ◌++◌, IfOk, IsTrue, List, OnOk, ℕ};
 ghost use Rattle.dp_signals.specs.PipeEquations.{constants};
 ghost use Rattle.seq_plus.specs.PlusTable.{plus_rows};
@@ -40,7 +40,7 @@ fn put_lines(
     put_state(out, s.flags, &signals)
 }
 
-/// Puts what is shown of the cycle of a number.
+/// Puts the output for the cycle with this number.
 #[tactic(auto, unfolding(crate::specs::Observer::shown))]
 fn put_shown(
     out: &mut Vec<u8>,
@@ -61,7 +61,8 @@ fn put_shown(
     put_lines(out, s, values, &sources)
 }
 
-/// Does the cycle of a number, and puts what is shown of it. `fits` is the evaluator's answer about the constants.
+/// Does the cycle with this number, and puts its output. `fits` says whether the evaluator's assumptions fit the
+/// constants.
 fn cycle<C: SignalEval>(
     s: &mut Observer<PlusState>,
     processor: &ProcessorDesign<'_>,
@@ -98,7 +99,7 @@ fn cycle<C: SignalEval>(
     Ok(())
 }
 
-/// Runs an image on SEQ+ under a design to its end or to the limit of cycles, and gives what is shown of it.
+/// Runs an image on SEQ+ under a design to its end or to the limit of cycles, and returns the output.
 pub fn watch_plus<C: SignalEval>(
     alloc: Global,
     processor: &ProcessorDesign<'_>,

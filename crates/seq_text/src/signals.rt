@@ -45,7 +45,8 @@ pub struct Signals {
     pub dst_m: u64,
 }
 
-/// The names that the definitions of aluA, aluB, mem_addr, mem_data, and of new_pc or pc pick in a cycle; `-` where they pick none.
+/// The names that the definitions of aluA, aluB, mem_addr, mem_data, and of new_pc or pc pick in a cycle; `-` if they
+/// pick none.
 #[derive(Clone, Copy)]
 pub struct Sources<'a> {
     pub alu_a: &'a [u8],
@@ -55,7 +56,7 @@ pub struct Sources<'a> {
     pub pc: &'a [u8],
 }
 
-/// The signals of a cycle, where they stand at these rows.
+/// The signals of a cycle, if they have these rows.
 pub(crate) fn signals_at(rows: &SignalRows, values: &[u64]) -> Signals
     ensures { result ≡ text.signals_by rows.now (at values.now) }
 {
@@ -95,7 +96,7 @@ pub(crate) fn signals_at(rows: &SignalRows, values: &[u64]) -> Signals
     }
 }
 
-/// Where words come from in a cycle of SEQ.
+/// The sources of words in a cycle of SEQ.
 #[tactic(auto, unfolding(crate::specs::Signals::seq_sources))]
 pub(crate) fn seq_sources<'a>(rows: &'a [Row], design: &Design, values: &[u64]) -> Sources<'a>
     ensures { text.sources_in result ≡ text.seq_sources rows.now design.now.terms (at values.now) }
@@ -110,7 +111,7 @@ pub(crate) fn seq_sources<'a>(rows: &'a [Row], design: &Design, values: &[u64]) 
     }
 }
 
-/// Where words come from in a cycle of SEQ+.
+/// The sources of words in a cycle of SEQ+.
 #[tactic(auto, unfolding(crate::specs::Signals::plus_sources))]
 pub(crate) fn plus_sources<'a>(rows: &'a [Row], design: &Design, values: &[u64]) -> Sources<'a>
     ensures { text.sources_in result ≡ text.plus_sources rows.now design.now.terms (at values.now) }

@@ -11,7 +11,7 @@ use Rattle.seq_obligations.specs.Obligations.{shared_demand, shared_demands}
 use Rattle.seq_obligations.specs.Signals.{fields_at}
 use Rattle.seq_obligations.proofs.demands.DemandRowGates.at_row.Goals as goal
 
--- what is no rule's number asks nothing
+-- a number that no rule has demands nothing
 asked_nothing : (s : SignalRows) (r : Row) (x : Fields) (α : Assignment) (cv : ℕ → Leaf) (n : ℕ) → (1 ≤ n → 16 ≤ n) → shared_demand s n r x α cv ≡ true
 asked_nothing s r x α cv zero h = refl
 asked_nothing s r x α cv (suc n) h =
