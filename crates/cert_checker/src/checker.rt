@@ -69,10 +69,9 @@ fn same_settings(a: &Settings, b: &Settings) -> bool
     *a == *b
 }
 
-/// Checks that a text is a certificate of the demands: each line by the rule, from the earlier lines that it names and
-/// from nothing else. If it isn't a certificate, the first line with a fault is reported. Takes 12 bytes for
-/// each `t` line,
-/// 16 for each claim and 4 for each gate, in vectors that double.
+/// Checks that a text is a certificate of the demands: each line by the rule, from the earlier lines that it names
+/// and from nothing else. If it isn't a certificate, the first line with a fault is reported. Takes 12 bytes for each
+/// `t` line, 16 for each claim and 4 for each gate, in vectors that double.
 ///
 /// Errors: `Cert` with the first fault; `Memory`.
 pub fn recheck(alloc: Global, g: &Demands, bytes: &[u8]) -> Result<(), CertError>

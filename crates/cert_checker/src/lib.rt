@@ -1,7 +1,6 @@
-//! Certificates: proofs of a `yes` of PIPE's check, as lines that are checked one by one, each against the
-//! earlier lines
-//! that it names. The checker has no order of variables, no reduction and no store of nodes, and uses no code of the
-//! diagrams. `docs/CERTIFICATES.md` describes the format.
+//! Certificates: proofs of a `yes` of PIPE's check, as lines that are checked one by one, each against the earlier
+//! lines that it names. The checker has no order of variables, no reduction and no store of nodes, and uses no code
+//! of the diagrams. `docs/CERTIFICATES.md` describes the format.
 #![tactic(auto)]
 
 mod checker;

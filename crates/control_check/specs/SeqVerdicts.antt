@@ -22,16 +22,15 @@ seq_questions v = record { rows = seq_rows; spots = spots; count = rule_count; a
 abbrev pub no_settings : Settings
 no_settings = record { pt = replicate 7 false; pb = replicate 7 false; tv = false; lf = false; je = false; rm = false }
 
--- no definition of the design mixes codes with words, it has at most 64 atoms, and every obligation holds at
--- every valuation
+-- no definition of the design mixes codes with words, it has at most 64 atoms, and every obligation holds at every
+-- valuation
 pub record AcceptsSeq (v : Variant) (terms : List Term) : Type 0 where
   pub atoms : List Atom
   pub are : AreAtoms seq_rows terms atoms
   pub holds : AcceptedSeq v terms
 
--- the same is true of its definitions and atoms, but an obligation is false at some valuation: this is the
--- first such obligation,
--- with the least valuation at which it is false
+-- the same is true of its definitions and atoms, but an obligation is false at some valuation: this is the first such
+-- obligation, with the least valuation at which it is false
 pub record RejectsSeq (v : Variant) (terms : List Term) (rule : ℕ) (w : List Bool) : Type 0 where
   pub atoms : List Atom
   pub are : AreAtoms seq_rows terms atoms

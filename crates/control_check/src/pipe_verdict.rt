@@ -26,8 +26,8 @@ use y86_base::{Memory, Variant};
 /// The number of jumps that are predicted, one for each ifun.
 const JUMPS: usize = 7;
 
-/// The indices of the early settings' gates in their list: those of forward jumps, those of backward jumps,
-/// that of the target.
+/// The indices of the early settings' gates in their list: those of forward jumps, those of backward jumps, that of
+/// the target.
 const FORWARD: usize = 0;
 
 const BACKWARD: usize = FORWARD + JUMPS;
@@ -42,8 +42,8 @@ struct EarlySettings {
     tv: bool,
 }
 
-/// The gates of the early settings: the predictions of forward and backward jumps, by ifun, and whether jumps
-/// carry their target.
+/// The gates of the early settings: the predictions of forward and backward jumps, by ifun, and whether jumps carry
+/// their target.
 fn early_gates(alloc: Global, parts: &Parts) -> Result<Vec<u64>, Memory>
     ensures gates { IfOk result (λ gates. gates.items ≡ parts.now.pt ++ (parts.now.pb ++ parts.now.tv ∷ [])) }
     ensures forward { OnOk result (length parts.now.pt ≡ 7) }

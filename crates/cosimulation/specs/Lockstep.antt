@@ -16,16 +16,14 @@ use Rattle.cosimulation.specs.declared.lockstep.Compared.{Compared}
 use Rattle.cosimulation.specs.declared.lockstep.Compared.TheVariants.{Same, Open, Record, State}
 use Rattle.cosimulation.specs.declared.lockstep.RecordDiffers.{RecordDiffers}
 
--- q is p after `cycles` cycles; it hadn't ended before any of them. Exactly the first `steps` records of the
--- run of m by
--- instructions retired in them.
+-- q is p after `cycles` cycles; it hadn't ended before any of them. Exactly the first `steps` records of the run of m
+-- by instructions retired in them.
 pub record IsAlike (v : Variant) (p : PipeMachine) (m : Machine) (cycles steps : ℕ) (q : PipeMachine) : Type 0 where
   pub goes : CallsFor p cycles q (records_from v m steps)
   pub count : length (records_from v m steps) ≡ steps
 
 -- The first record that differs: the records before it are alike, it retired in this cycle, and the run by
--- instructions has another
--- record in its place, or none.
+-- instructions has another record in its place, or none.
 pub record IsFirstDifferent (v : Variant) (p : PipeMachine) (m : Machine) (d : RecordDiffers) : Type 0 where
   pub after : PipeMachine
   pub goes : CallsFor p d.cycle after (records_from v m d.before ++ d.retired ∷ [])

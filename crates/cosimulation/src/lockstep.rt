@@ -19,9 +19,8 @@ use y86_base::{Image, Memory, Variant};
 use y86_isa::{Machine, Rec, step};
 use yis_run::End;
 
-/// A record that differs: how many records before it were alike, the cycle that retired it, and the record
-/// that the run by
-/// instructions has in its place, if it has one.
+/// A record that differs: how many records before it were alike, the cycle that retired it, and the record that the
+/// run by instructions has in its place, if it has one.
 #[derive(Clone, Copy, Debug)]
 pub struct RecordDiffers {
     pub before: u64,
@@ -54,8 +53,8 @@ fn record_of(cycled: Cycled) -> Option<Rec>
     }
 }
 
-/// Runs one cycle, and the next instruction if a record retired. Returns how many retired, 0 or 1, or the two
-/// records if they differ.
+/// Runs one cycle, and the next instruction if a record retired. Returns how many retired, 0 or 1, or the two records
+/// if they differ.
 fn go_both<C: SignalEval>(
     v: Variant,
     m: &mut Machine,
@@ -116,9 +115,8 @@ fn run_both<C: SignalEval>(v: Variant, m: &mut Machine, p: &mut Pipe<C>, limit: 
     ended(m, p, steps, limit)
 }
 
-/// Runs an image by its instructions and on PIPE under a design, side by side, for at most `limit` cycles.
-/// All memory is
-/// allocated before the first cycle.
+/// Runs an image by its instructions and on PIPE under a design, side by side, for at most `limit` cycles. All memory
+/// is allocated before the first cycle.
 pub fn compare(
     alloc: Global,
     v: Variant,

@@ -7,9 +7,8 @@ ghost use Rattle.yis_run.specs.Report.{aligned_word, ended};
 use y86_base::{Flags, Image, Regs, Stat};
 use yis_run::End;
 
-/// A part of the state, with its values in the one and in the other. A register is given by its number, an
-/// aligned word of
-/// memory by its index: its address is 8 times that.
+/// A part of the state, with its values in the one and in the other. A register is given by its number, an aligned
+/// word of memory by its index: its address is 8 times that.
 #[derive(Clone, Copy, Debug, PartialEq, Eq)]
 pub enum Part {
     Stat(Stat, Stat),

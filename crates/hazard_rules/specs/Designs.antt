@@ -27,8 +27,8 @@ places_from (s ∷ ss) first = placed s.name first s.bits (places_from ss (first
 abbrev pub places : List Place
 places = places_from field_specs 0
 
--- the net has a variable for each bit of a field and each atom, and its gates encode the control values of
--- the design's names
+-- the net has a variable for each bit of a field and each atom, and its gates encode the control values of the
+-- design's names
 pub record IsTranslated (terms : List Term) (net : Gates) (ctl : List Entry) (atoms : List Atom) : Type 0 where
   pub are : AreAtoms pipe_rows terms atoms
   pub vars : net.vars ≡ bit_count + length atoms

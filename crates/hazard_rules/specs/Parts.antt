@@ -16,8 +16,8 @@ use Rattle.pipe_gates.specs.GateTruths.{IsTruthGate}
 use Rattle.pipe_obligations.specs.Rules.{obligation, rule_count}
 use Rattle.pipe_obligations.specs.FileSettings.{PipeControls, ValuationTruth, picks_target, alu_passes_target, witnesses_lf, witnesses_je, witnesses_rm}
 
--- the gate has the truth f of the valuation that the bits spell, for the truths of atoms that they encode,
--- and its control values
+-- the gate has the truth f of the valuation that the bits spell, for the truths of atoms that they encode, and its
+-- control values
 pub record IsDesignGate (terms : List Term) (atoms : List Atom) (net : Gates) (g : ℕ) (f : ValuationTruth) : Type 0 where
   pub within : g < length net.gates
   pub is : (w : List Bool) (α : Assignment) (cv : ℕ → Leaf) → AtomsAre atoms bit_count w α → PipeControls terms (fields_of w) α cv

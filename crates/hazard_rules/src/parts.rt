@@ -68,9 +68,8 @@ pub fn pipe_parts(alloc: Global, v: Variant, d: &Design, o: &Order) -> Result<Pa
     }
 }
 
-/// Adds to the net of parts the gates that decide lf, je and rm, given pt, pb and tv. Gates that were already
-/// in the net
-/// stay, even if memory runs out.
+/// Adds to the net of parts the gates that decide lf, je and rm, given pt, pb and tv. Gates that were already in the
+/// net stay, even if memory runs out.
 pub fn pipe_late(
     alloc: Global,
     p: &mut Parts,

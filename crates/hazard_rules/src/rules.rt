@@ -24,8 +24,8 @@ use pipe_obligations::RULE_COUNT;
 use std::alloc::Global;
 use y86_base::{Memory, Variant};
 
-/// The flow of the stages, and the valuations at which obligations are demanded: in any cycle, and in one
-/// that doesn't stop.
+/// The flow of the stages, and the valuations at which obligations are demanded: in any cycle, and in one that
+/// doesn't stop.
 #[derive(Clone, Copy, Debug)]
 pub(crate) struct Premises {
     pub flow: FlowGates,

@@ -6,9 +6,8 @@ use Rattle.ctl_rules.specs.declared.rules.Rule.{Rule}
 use Rattle.lane_eval.specs.Search.{AllHold, HoldBefore, IsFirstAt, IsFirstFalse}
 use Rattle.lane_eval.specs.declared.search.Found.{Found}
 
--- what is known after the first rules: before the best place they are all true, and there, unless it is the
--- count, the first rule
--- that is false has this number
+-- what is known after the first rules: before the best place they are all true, and there, unless it is the count,
+-- the first rule that is false has this number
 pub record IsBest (holds : ℕ → Rule → Bool) (list : List Rule) (count k best number : ℕ) : Type 0 where
   pub within : best ≤ count
   pub earlier : (i : ℕ) → i < best → HoldBefore holds list i k

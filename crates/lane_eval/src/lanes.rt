@@ -1,5 +1,5 @@
-//! Vectors of 512 bits as the truths of gates: each operation of a gate in all places at once, and a whole
-//! net in one pass.
+//! Vectors of 512 bits as the truths of gates: each operation of a gate in all places at once, and a whole net in one
+//! pass.
 ghost use Rattle.std.specs.Prelude.{◌≡◌, ◌<◌, ◌≤◌, ◌&&◌, not, ℕ, [], length, take, get_or, IfOk};
 ghost use Rattle.nets.specs.Nets.{ReadsEarlier, gate_value, truth, truths, values};
 ghost use Rattle.lane_eval.specs.Lanes.{across, lane_bit};
@@ -114,9 +114,8 @@ impl Scratch {
     }
 }
 
-/// The truths of gate `gate` at 512 valuations. Bit p % 64 of word p / 64 is its truth at the valuation whose
-/// bits are in
-/// place p of the entries of `lanes`, which has one entry for each variable. It allocates no memory.
+/// The truths of gate `gate` at 512 valuations. Bit p % 64 of word p / 64 is its truth at the valuation whose bits
+/// are in place p of the entries of `lanes`, which has one entry for each variable. It allocates no memory.
 pub fn eval512(n: &Net, gate: u64, lanes: &[u64x8], s: &mut Scratch) -> u64x8
     requires gate { gate < length n.now.gates }
     requires variables { length lanes.now ≡ n.now.vars }

@@ -1,5 +1,5 @@
-//! One place of vectors: it is written in each of several vectors, and the first place in which a vector is
-//! false is found.
+//! One place of vectors: it is written in each of several vectors, and the first place in which a vector is false is
+//! found.
 ghost use Rattle.std.specs.Prelude.{◌≡◌, ◌≢◌, ◌<◌, ◌≤◌, ◌==◌, ℕ, true, false, length, if◌then◌else◌};
 ghost use Rattle.lane_eval.specs.Lanes.{across, bit_test, lane_bit};
 

@@ -107,9 +107,8 @@ fn zeros<T: Copy>(alloc: Global, zero: T, n: u32) -> Result<Vec<T>, Memory>
     Ok(v)
 }
 
-/// The least index below `count` at whose valuation of `seed` some rule is false, and the first such rule;
-/// `None` if there
-/// is none. The rules' net has a variable for each bit of a control valuation's fields, and one for each atom.
+/// The least index below `count` at whose valuation of `seed` some rule is false, and the first such rule; `None` if
+/// there is none. The rules' net has a variable for each bit of a control valuation's fields, and one for each atom.
 pub fn first_false(alloc: Global, r: &Rules, seed: u64, count: u64) -> Result<Option<Found>, Memory>
     requires fields { bit_count ≤ r.now.net.vars }
     requires atoms { r.now.net.vars ≤ bit_count + 64 }

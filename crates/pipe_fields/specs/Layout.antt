@@ -82,8 +82,8 @@ pub record Fields : Type 0 where
 
 -- ---- the table of the fields
 
--- a field: its label in output, its number of bits and the row of its signal (none if it is hidden), and its
--- number in given fields
+-- a field: its label in output, its number of bits and the row of its signal (none if it is hidden), and its number
+-- in given fields
 pub record Field : Type 0 where
   pub label : List ℕ
   pub spec : FieldSpec
@@ -190,8 +190,8 @@ field_count = w_first + length write_fields
 abbrev pub bit_count : ℕ
 bit_count = 107
 
--- the fields as numbers in the order of the table, and back; a line is read from its kind and from the index
--- of its first number
+-- the fields as numbers in the order of the table, and back; a line is read from its kind and from the index of its
+-- first number
 abbrev pub numbers : Fields → List ℕ
 numbers c = map (λ (x : Field). x.number c) all_fields
 

@@ -2,8 +2,7 @@
 use Rattle.std.specs.Prelude.{Bool, false, not, ◌&&◌, ◌||◌, if◌then◌else◌}
 
 -- what a register holds: an instruction of the run (good), one that was fetched on the wrong path (wrong), or
--- neither, a bubble;
--- for a good one: it stops the machine, it is a ret, it is a mispredicted jump (missed)
+-- neither, a bubble; for a good one: it stops the machine, it is a ret, it is a mispredicted jump (missed)
 pub record StageFlow : Type 0 where
   pub good : Bool
   pub wrong : Bool

@@ -147,8 +147,8 @@ fn follows(b: &mut NetBuilder, s: &StageFlowGates) -> Result<u64, Memory>
     b.not(any)
 }
 
-/// Selects a gate by the stage of the youngest good instruction: `d`, `e` or `m`, and `w` if it is in W or
-/// there is none.
+/// Selects a gate by the stage of the youngest good instruction: `d`, `e` or `m`, and `w` if it is in W or there is
+/// none.
 pub fn of_youngest(
     b: &mut NetBuilder,
     v: &FlowGates,

@@ -1,8 +1,7 @@
 //! The settings of a file: which of the permitted shortcuts it takes.
 
-/// Which of the permitted shortcuts a file takes. `pt` and `pb` say by ifun which jumps it predicts as taken:
-/// `pt` those
-/// that don't go back, `pb` those that do. A jump goes back if its valC is below its valP, as signed words.
+/// Which of the permitted shortcuts a file takes. `pt` and `pb` say by ifun which jumps it predicts as taken: `pt`
+/// those that don't go back, `pb` those that do. A jump goes back if its valC is below its valP, as signed words.
 #[derive(Clone, Copy, Debug, PartialEq, Eq)]
 pub struct Settings {
     pub pt: [bool; 7],

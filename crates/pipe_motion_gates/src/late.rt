@@ -57,8 +57,8 @@ pub fn no_late_load(
     b.not(shown)
 }
 
-/// False exactly if E holds a missed jump, and f_pc is where it goes (`right`), at a valuation that may show
-/// a setting (`plain`).
+/// False exactly if E holds a missed jump, and f_pc is where it goes (`right`), at a valuation that may show a
+/// setting (`plain`).
 pub fn no_early_jump(
     b: &mut NetBuilder,
     y: &FlowGates,
@@ -76,8 +76,8 @@ pub fn no_early_jump(
     b.not(shown)
 }
 
-/// False exactly if M holds a ret that doesn't stop, and f_pc is where it goes (`right`), at a valuation that
-/// may show a setting (`plain`).
+/// False exactly if M holds a ret that doesn't stop, and f_pc is where it goes (`right`), at a valuation that may
+/// show a setting (`plain`).
 pub fn no_early_ret(
     b: &mut NetBuilder,
     y: &FlowGates,

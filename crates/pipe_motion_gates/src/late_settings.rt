@@ -106,8 +106,8 @@ struct PermissiveFlow {
     plain: u64,
 }
 
-/// The valuations that may show a setting: legal ones of cycles that don't stop, with every early fetch and
-/// late word allowed.
+/// The valuations that may show a setting: legal ones of cycles that don't stop, with every early fetch and late word
+/// allowed.
 fn permissive_legal(
     b: &mut NetBuilder,
     v: Variant,

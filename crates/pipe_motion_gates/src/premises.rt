@@ -80,9 +80,8 @@ fn jump_of(b: &mut NetBuilder, v: Variant, ifun: u64, back: bool) -> Result<u64,
     }
 }
 
-/// The valuations at which a prediction is demanded: allowed ones (`fits` is their gate) with a fetched jump
-/// of this kind
-/// whose atom is its back bit.
+/// The valuations at which a prediction is demanded: allowed ones (`fits` is their gate) with a fetched jump of this
+/// kind whose atom is its back bit.
 pub fn prediction_premise(
     b: &mut NetBuilder,
     v: Variant,

@@ -1,5 +1,5 @@
--- What the settings of a file mean, when a file meets the obligations at settings, and which obligation is
--- false at a valuation.
+-- What the settings of a file mean, when a file meets the obligations at settings, and which obligation is false at a
+-- valuation.
 use Rattle.std.specs.Prelude.{ℕ, ◌+◌, ◌≡◌, ◌≤◌, ◌<◌, Bool, true, false, not, ◌&&◌, ◌||◌, ◌==◌, List, get_or, length}
 use Rattle.y86_base.specs.declared.parts.Variant.{Variant}
 use Rattle.y86_isa.specs.Table.{row, no_register}
@@ -77,8 +77,8 @@ unfoldable pub witnesses_rm : Variant → Settings → List Atom → ValuationTr
 witnesses_rm v s atoms c α cv =
     (((flow_of v s c).m.ret && not (flow_of v s c).m.stops) && picks_leaf cv signal.f_pc (Name signal.m_valM)) && may_witness v s atoms c α
 
--- ---- over all valuations of a file with these atoms; `Controls` has the control values at a valuation and
--- truths of atoms
+-- ---- over all valuations of a file with these atoms; `Controls` has the control values at a valuation and truths of
+-- atoms
 module _ (v : Variant) (atoms : List Atom) (Controls : Fields → Assignment → (ℕ → Leaf) → Type 0) where
   abbrev pub Everywhere : ValuationTruth → Type 0
   Everywhere f = (c : Fields) (α : Assignment) (cv : ℕ → Leaf) → InRange c → Controls c α cv → f c α cv ≡ true
@@ -108,8 +108,8 @@ module _ (v : Variant) (atoms : List Atom) (Controls : Fields → Assignment →
     pub controls : Controls (fields_of w) α cv
     pub false_there : obligation v s atoms i (fields_of w) α cv ≡ false
 
-  -- the first obligation that is false at some valuation, and the least valuation where it is, in the order
-  -- of the variables, 0 before 1
+  -- the first obligation that is false at some valuation, and the least valuation where it is, in the order of the
+  -- variables, 0 before 1
   pub record IsLeastFalse (s : Settings) (i : ℕ) (w : List Bool) : Type 0 where
     pub first : 1 ≤ i
     pub last : i ≤ rule_count

@@ -1,7 +1,6 @@
 -- The 27 obligations of a file for PIPE, each a truth of a valuation and control values (CS:APP 3e, sections 4.5.5 to 4.5.8).
--- The arguments of all: the variant, the settings, the fields of the valuation, the flow of its stages, its
--- stall and bubble
--- signals, the truths of atoms, and the control value of each name.
+-- The arguments of all: the variant, the settings, the fields of the valuation, the flow of its stages, its stall and
+-- bubble signals, the truths of atoms, and the control value of each name.
 use Rattle.std.specs.Prelude.{ℕ, Bool, false, not, ◌&&◌, ◌||◌, ◌==◌, Option, Some, None, if◌then◌else◌}
 use Rattle.y86_base.specs.declared.parts.Variant.{Variant}
 use Rattle.y86_base.specs.Stat.{stat_number}
@@ -106,8 +105,8 @@ module _ (v : Variant) (s : Settings) (c : Fields) (y : Flow) (mv : RegisterCont
   abbrev pub loaded_in_e : ℕ → Bool
   loaded_in_e source = y.e.good && is_number cv source c.e.dst_m
 
-  -- the word picks the right value of a source, if there is a source; if that value isn't known yet, no word
-  -- is right, or any (free)
+  -- the word picks the right value of a source, if there is a source; if that value isn't known yet, no word is
+  -- right, or any (free)
   abbrev pub picks_right_value : Bool → ℕ → ℕ → ℕ → Bool
   picks_right_value free word source rest =
       is_number cv source no_register || (if loaded_in_e source then free else picks_leaf cv word (right_value source rest))

@@ -60,9 +60,8 @@ flow_of v s c = record { d = decode_flow v s c.d; e = execute_flow v s c.e; m = 
 
 -- ---- legal valuations
 
--- if a good instruction in M loads a register, that is no source of the good one in E; with lf it may be a
--- store's source
--- of the word that it stores
+-- if a good instruction in M loads a register, that is no source of the good one in E; with lf it may be a store's
+-- source of the word that it stores
 abbrev pub no_load_use_in_e : Variant → Bool → Fields → Flow → Bool
 no_load_use_in_e v lf c y =
     not (y.e.good && (y.m.good && not (c.m.dst_m == no_register)))

@@ -17,8 +17,8 @@ pub fn law_of_undemanded()
     ensures { (v : Variant) (s : Settings) (atoms : List Atom) (i : ℕ) (c : Fields) (α : Assignment) (cv : ℕ → Leaf) → is_demanded v s atoms i c α ≡ false → obligation v s atoms i c α cv ≡ true }
 {}
 
-/// In a legal flow, only the youngest good instruction can stop or be unresolved (a jump or a ret), and no
-/// good instruction follows a wrong one.
+/// In a legal flow, only the youngest good instruction can stop or be unresolved (a jump or a ret), and no good
+/// instruction follows a wrong one.
 #[tactic(auto, using(crate::proofs::Older::older_goes_on, crate::proofs::Older::older_has_turned, crate::proofs::Older::none_behind_wrong))]
 pub fn law_of_legal_flows()
     ensures stops { (je rm : Bool) (v : Flow) → flow_legal je rm v ≡ true → OlderGoesOn v }
@@ -26,9 +26,8 @@ pub fn law_of_legal_flows()
     ensures wrong { (je rm : Bool) (v : Flow) → flow_legal je rm v ≡ true → v.e.wrong ≡ true → v.d.good ≡ false }
 {}
 
-/// A pipeline of bubbles alone, as at the start, is legal at all settings if the comparison of valC and valP
-/// agrees with
-/// the fetched jump; and its cycle doesn't stop. The flow of such a pipeline is legal and on its path.
+/// A pipeline of bubbles alone, as at the start, is legal at all settings if the comparison of valC and valP agrees
+/// with the fetched jump; and its cycle doesn't stop. The flow of such a pipeline is legal and on its path.
 #[tactic(auto, using(crate::proofs::Start::start_is_legal, crate::proofs::Older::empty_is_lawful, crate::proofs::Older::empty_on_path))]
 pub fn law_of_the_start()
     ensures legal { (v : Variant) (s : Settings) (atoms : List Atom) (f : FetchLine) (α : Assignment) → back_matches_in_f v atoms (of_bubbles f) α ≡ true → legal v s atoms (of_bubbles f) α ≡ true }

@@ -41,17 +41,14 @@ impl Weave {
 pub enum Layout {
     /// Stage by stage, the registers of each stage after its other fields.
     Stages,
-    /// The icode in E first, and the registers of all stages last, four of their fields interleaved. This is
-    /// for a part of
-    /// the valuations that is split again by the first variables, because its diagrams are large. On the
-    /// changed files with
-    /// the largest diagrams, the icode in E was the best of the three in D, E and M.
+    /// The icode in E first, and the registers of all stages last, four of their fields interleaved. This is for a
+    /// part of the valuations that is split again by the first variables, because its diagrams are large. On the
+    /// changed files with the largest diagrams, the icode in E was the best of the three in D, E and M.
     LargePart,
-    /// The registers of all stages last. If registers of one stage are compared with each other or with
-    /// constants, their
-    /// fields are best one after another. If a file compares registers of several stages, that order doubles
-    /// the diagrams
-    /// with each bit between the compared ones, and the bits of the compared registers are best interleaved.
+    /// The registers of all stages last. If registers of one stage are compared with each other or with constants,
+    /// their fields are best one after another. If a file compares registers of several stages, that order doubles
+    /// the diagrams with each bit between the compared ones, and the bits of the compared registers are best
+    /// interleaved.
     RegistersLast(Weave),
 }
 

@@ -17,11 +17,9 @@ pub record StopsAs (p : PipeHistory) (m : Machine) : Type 0 where
   pub not_aok : m.stat ≢ Aok
 
 -- For every machine that the design reaches on the image in k cycles: its records are the first records of the run of
--- instructions, and its registers are those after them. If it has stopped, it is like the machine of that
--- run. It stops in the
--- cycle in which a record that isn't AOK retires. It never ends because a register is both stalled and
--- bubbled. By the end of
--- cycle 5n, n instructions have retired, or it has stopped.
+-- instructions, and its registers are those after them. If it has stopped, it is like the machine of that run. It
+-- stops in the cycle in which a record that isn't AOK retires. It never ends because a register is both stalled and
+-- bubbled. By the end of cycle 5n, n instructions have retired, or it has stopped.
 pub record Refines (v : Variant) (terms : List Term) (image : List ℕ) (k : ℕ) : Type 0 where
   pub records : (p : PipeHistory) → PipeRun v terms image k p → p.records ≡ records v image (length p.records)
   pub registers : (p : PipeHistory) → PipeRun v terms image k p → p.state.regs ≡ (run v image (length p.records)).regs

@@ -1,5 +1,5 @@
--- The answer on a file for PIPE: the verdict, and for a refusal each obligation that is false somewhere, with
--- its least counterexample.
+-- The answer on a file for PIPE: the verdict, and for a refusal each obligation that is false somewhere, with its
+-- least counterexample.
 use Rattle.std.specs.Prelude.{ℕ, ◌+◌, ◌≡◌, ◌≤◌, ◌<◌, ◌==◌, Bool, true, false, List, ◌∷◌, get_or, length}
 use Rattle.std.specs.List.{AllByRecursion}
 use Rattle.y86_base.specs.declared.parts.Variant.{Variant}

@@ -72,8 +72,8 @@ fn put(out: &mut Vec<Refutation>, refutation: Refutation) -> Result<(), Memory>
     }
 }
 
-/// Refutes the next obligation that is false somewhere, and returns the number up to which all obligations
-/// are then decided.
+/// Refutes the next obligation that is false somewhere, and returns the number up to which all obligations are then
+/// decided.
 #[tactic(auto, using(crate::proofs::Refuting::gates_from))]
 fn refute_next(
     alloc: Global,
@@ -156,10 +156,9 @@ fn refuse(
     })
 }
 
-/// The verdict on a file for PIPE, and the diagnosis of a refusal. The verdict is that of `check_pipe`: if it
-/// is yes, the
-/// file's machine refines the run of instructions on every image whose instructions fetch no byte that one of the three
-/// before them stored.
+/// The verdict on a file for PIPE, and the diagnosis of a refusal. The verdict is that of `check_pipe`: if it is yes,
+/// the file's machine refines the run of instructions on every image whose instructions fetch no byte that one of the
+/// three before them stored.
 pub fn diagnose_pipe(
     alloc: Global,
     v: Variant,

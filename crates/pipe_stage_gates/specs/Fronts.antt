@@ -1,6 +1,5 @@
--- The premises of the gates of obligations 1 to 9: the fields are among the variables, and the signals of
--- fetch and decode have
--- control values; and what the row of an icode demands of some of these signals.
+-- The premises of the gates of obligations 1 to 9: the fields are among the variables, and the signals of fetch and
+-- decode have control values; and what the row of an icode demands of some of these signals.
 use Rattle.std.specs.Prelude.{ℕ, ◌≤◌, Bool, IsTrue, List}
 use Rattle.y86_base.specs.Stat.{stat_number}
 use Rattle.y86_isa.specs.declared.columns.Row.{Row}

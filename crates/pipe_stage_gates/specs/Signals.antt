@@ -1,6 +1,5 @@
--- The premises of the gates of the stages' rules: the fields are among the variables, and the signals in the
--- rules have control
--- values; and what the row of an icode demands of some of these signals.
+-- The premises of the gates of the stages' rules: the fields are among the variables, and the signals in the rules
+-- have control values; and what the row of an icode demands of some of these signals.
 use Rattle.std.specs.Prelude.{ℕ, ◌≤◌, ◌||◌, not, IsTrue, List, Bool}
 use Rattle.ctl_atoms.specs.declared.leaf.Leaf.{Leaf}
 use Rattle.ctl_formula.specs.declared.controls.Entry.{Entry}

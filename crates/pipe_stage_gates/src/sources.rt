@@ -30,9 +30,8 @@ use pipe_gates::{RowTest, none_leaves, row_has};
 use pipe_motion::{FlowGates, Settings};
 use y86_base::{Memory, Variant};
 
-/// A word that takes the value of a source, and the leaf that it takes if no instruction in E, M or W writes
-/// the source.
-/// The gate `free` counts if that value isn't known yet, because the good instruction in E is loading it.
+/// A word that takes the value of a source, and the leaf that it takes if no instruction in E, M or W writes the
+/// source. The gate `free` counts if that value isn't known yet, because the good instruction in E is loading it.
 #[derive(Clone, Copy, Debug)]
 struct Operand {
     word: NameId,
@@ -202,9 +201,8 @@ fn stores_late(b: &mut NetBuilder, v: Variant, late: bool) -> Result<u64, Memory
     }
 }
 
-/// Obligation 10: if a good instruction leaves D, d_valA is valP for a call and a jump, and otherwise the
-/// right value of
-/// its source.
+/// Obligation 10: if a good instruction leaves D, d_valA is valP for a call and a jump, and otherwise the right value
+/// of its source.
 pub fn obligation_10(
     b: &mut NetBuilder,
     ctl: &Controls,

@@ -14,11 +14,9 @@ use Rattle.prog_cosim.specs.declared.both.CosimResult as code
 abbrev pub run_limit : ℕ → ℕ
 run_limit n = 10 * n + 100
 
--- program n run by the instructions and on PIPE under a design, each up to the limit: the numbers of
--- instructions and of cycles;
--- whether both reports, with the instructions and the retired records as their steps, are the same bytes;
--- whether both runs ended
--- with HLT
+-- program n run by the instructions and on PIPE under a design, each up to the limit: the numbers of instructions and
+-- of cycles; whether both reports, with the instructions and the retired records as their steps, are the same bytes;
+-- whether both runs ended with HLT
 pub record IsCosimulation (v : Variant) (terms : List Term) (n : ℕ) (b : code.CosimResult) : Type 0 where
   pub end : PipeHistory
   pub runs : RunsTo v terms (program n) (run_limit n) b.cycles end

@@ -37,11 +37,9 @@ fn are_halts(one: Stat, other: Stat) -> bool
     matches!(one, Stat::Hlt) && matches!(other, Stat::Hlt)
 }
 
-/// Runs program `n` by the instructions and on PIPE under a design, each for at most 10n + 100 steps or
-/// cycles, and compares
-/// the reports. Their steps are the instructions and the retired records. All memory of the runs is allocated
-/// before the
-/// first step, that of the reports after the last.
+/// Runs program `n` by the instructions and on PIPE under a design, each for at most 10n + 100 steps or cycles, and
+/// compares the reports. Their steps are the instructions and the retired records. All memory of the runs is
+/// allocated before the first step, that of the reports after the last.
 pub fn cosimulate(
     alloc: Global,
     variant: Variant,

@@ -11,8 +11,7 @@ ghost use Rattle.prog_cosim.specs.Cosimulation.{IsCosimulation, CosimulationAgre
 ghost use Rattle.prog_cosim.specs.declared.both.CosimResult.{CosimResult};
 
 /// Under a design that refines the run of instructions on program `n`, both runs execute the whole program, n
-/// instructions
-/// and the halt, the pipeline in at most 5(n + 1) cycles, and their reports are the same bytes.
+/// instructions and the halt, the pipeline in at most 5(n + 1) cycles, and their reports are the same bytes.
 pub fn law_of_cosimulation()
     ensures { (v : Variant) (terms : List Term) (n : ℕ) (b : CosimResult) → 1 ≤ n → n ≤ 100000 →
         ((k : ℕ) → Refines v terms (program n) k) → IsCosimulation v terms n b → CosimulationAgrees n b }

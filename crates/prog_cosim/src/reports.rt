@@ -29,8 +29,8 @@ fn report_text(alloc: Global, first: &Image, end: &End<'_>, steps: u64) -> Resul
     }
 }
 
-/// Whether the reports of two runs that began with the memory `first` are the same bytes, each with its own
-/// count of steps.
+/// Whether the reports of two runs that began with the memory `first` are the same bytes, each with its own count of
+/// steps.
 pub fn same_reports(
     alloc: Global,
     first: &Image,

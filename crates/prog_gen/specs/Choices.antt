@@ -13,8 +13,8 @@ use Rattle.pipe_fields.specs.Allowed.{is_good_aok}
 use Rattle.net_fields.specs.FieldSpecs as table
 use Rattle.prog_gen.specs.Draws.{lcg_next, lcg_output}
 
--- ---- what a field of a line may be, by its place in the line and the row of the line's icode; later fields
--- don't count
+-- ---- what a field of a line may be, by its place in the line and the row of the line's icode; later fields don't
+-- count
 
 abbrev pub fetch_choice_allowed : ℕ → Row → FetchLine → ℕ → ℕ → Bool
 fetch_choice_allowed count r x i n =

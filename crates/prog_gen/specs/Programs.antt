@@ -9,9 +9,8 @@ use Rattle.prog_gen.specs.Draws.{lcg_next, lcg_output}
 abbrev pub data_start : ℕ → ℕ
 data_start n = (10 * n + 15) / 8 * 8
 
--- what a draw returns, from its new word, as a register, one of the first fourteen, and as an address, that
--- of one of 256 words
--- from a data area's start on
+-- what a draw returns, from its new word, as a register, one of the first fourteen, and as an address, that of one of
+-- 256 words from a data area's start on
 abbrev pub register : ℕ → ℕ
 register word = lcg_output word % 14
 
@@ -30,8 +29,8 @@ pub record Drawn : Type 0 where
 abbrev pub drawn : ℕ → ℕ → ℕ → ℕ → ℕ → ℕ → Drawn
 drawn icode ifun r_a r_b val_c word = record { instr = record { icode = icode; ifun = ifun; r_a = r_a; r_b = r_b; val_c = val_c }; word = word }
 
--- the instruction of a kind at an address; its own draws leave these words, one after another, and it uses as
--- many as it needs
+-- the instruction of a kind at an address; its own draws leave these words, one after another, and it uses as many as
+-- it needs
 abbrev pub drawn_as : ℕ → ℕ → ℕ → ℕ → ℕ → ℕ → Drawn
 drawn_as kind data_at at first second third =
     if kind == 0 then drawn 3 0 no_register (register second) (lcg_output first) second  -- irmovq V, rB

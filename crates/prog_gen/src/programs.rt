@@ -46,8 +46,8 @@ fn draw_address(draws: &mut Draws, data_at: u64) -> u64
     data_at + 8 * (draws.draw() % 256)
 }
 
-/// The next instruction of a program, at an address. Its kind is drawn first, then its fields in the order in
-/// which they are written.
+/// The next instruction of a program, at an address. Its kind is drawn first, then its fields in the order in which
+/// they are written.
 #[tactic(auto, using(crate::proofs::Valid::irmovq_valid, crate::proofs::Valid::opq_valid, crate::proofs::Valid::rrmovq_valid, crate::proofs::Valid::rmmovq_valid, crate::proofs::Valid::mrmovq_valid, crate::proofs::Valid::jxx_valid), unfolding(crate::specs::Programs::next_drawn))]
 fn draw_instruction(draws: &mut Draws, data_at: u64, at: u64) -> Instr
     requires data { data_at < 2000000 }
@@ -98,11 +98,9 @@ fn put_bytes(image: &mut Image, at: u64, bytes: &[u8])
     }
 }
 
-/// The image of program `n`: `n` instructions drawn with seed `n`; zeros, the first of which is a halt; and
-/// 2048 bytes of
-/// data, from the first multiple of 8 from 10n + 8 on. Its memory, 1,002,056 bytes at most, is allocated
-/// before the first
-/// draw.
+/// The image of program `n`: `n` instructions drawn with seed `n`; zeros, the first of which is a halt; and 2048
+/// bytes of data, from the first multiple of 8 from 10n + 8 on. Its memory, 1,002,056 bytes at most, is allocated
+/// before the first draw.
 pub fn program(alloc: Global, n: u64) -> Result<Image, Memory>
     requires least { 1 ≤ n }
     requires most { n ≤ 100000 }

@@ -65,9 +65,8 @@ pub fn draw_valuation(v: Variant, word: u64, out: &mut [bool])
     draw_truths(&mut draws, out, BIT_COUNT as usize);
 }
 
-/// Puts valuation `i` of a seed into `out`, for the instruction set of the rules and the atoms of their net.
-/// The net has a
-/// variable for each bit of the fields and one for each atom; `out` has a bit for each variable.
+/// Puts valuation `i` of a seed into `out`, for the instruction set of the rules and the atoms of their net. The net
+/// has a variable for each bit of the fields and one for each atom; `out` has a bit for each variable.
 pub fn valuation(r: &Rules, seed: u64, i: u64, out: &mut Valuation)
     requires fields { bit_count ≤ r.now.net.vars }
     requires atoms { r.now.net.vars ≤ bit_count + 64 }

@@ -1,5 +1,5 @@
--- The part of a memory below an address: the bytes in it from a place on, and that a store from that address
--- on leaves it.
+-- The part of a memory below an address: the bytes in it from a place on, and that a store from that address on
+-- leaves it.
 use Rattle.std.proofs.Common.{◌≡◌, ℕ, ◌+◌, ◌-◌, ◌<◌, ◌≤◌, nat_le, List, ◌++◌, length, take, drop, Option, Some, None, refl, sym, ap, ◌∙◌, arith, length-append, length-take, length-drop, take-take, drop-drop}
 use Rattle.std.specs.Int.{to_le_bytes, w64}
 use Rattle.std.proofs.lemmas.Bool.{cond_both, leb-true}

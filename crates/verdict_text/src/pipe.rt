@@ -85,9 +85,8 @@ fn put_lines(out: &mut Vec<u8>, bits: &[bool]) -> Result<(), Memory>
     put_stage(out, b"W", bits, place::W_KIND, StageLine::W)
 }
 
-/// The output of a `no` of PIPE: the obligation that is false, the valuation at which it is, by the names of
-/// the rows of
-/// PIPE's table, and the truths of its atoms.
+/// The output of a `no` of PIPE: the obligation that is false, the valuation at which it is, by the names of the rows
+/// of PIPE's table, and the truths of its atoms.
 #[tactic(auto, unfolding(crate::specs::PipeLines::pipe_no))]
 pub fn pipe_refusal(
     alloc: Global,

@@ -102,9 +102,8 @@ pub fn seq_refusal(
     Ok(out)
 }
 
-/// The same for SEQ+, by the names of the rows of its own table. The line P, whose bits come first, is
-/// printed before the
-/// line S.
+/// The same for SEQ+, by the names of the rows of its own table. The line P, whose bits come first, is printed before
+/// the line S.
 #[tactic(auto, unfolding(crate::specs::SeqLine::plus_no))]
 pub fn plus_refusal(
     alloc: Global,
