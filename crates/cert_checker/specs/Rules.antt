@@ -47,7 +47,7 @@ is_term k t = nat_lt t (length k.terms + 2)
 abbrev pub is_claim : CheckerFacts → ℕ → Bool
 is_claim k p = nat_lt p (length k.claims)
 
--- each number names an earlier term, an earlier claim or a variable, as its place asks
+-- each number names an earlier term, an earlier claim or a variable, as its place requires
 abbrev pub names : ℕ → CheckerFacts → CertLine → Bool
 names vars k (Term var low high) = nat_lt var vars && (is_term k low && is_term k high)
 names vars k (And left right both) = is_term k left && (is_term k right && is_term k both)

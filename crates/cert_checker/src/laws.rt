@@ -7,7 +7,7 @@ pub fn law_of_certificates()
     ensures { CertificatesShow }
 {}
 
-/// A certificate has no fault, and another text has one first fault.
+/// A text has at most one first fault, and none if it is a certificate.
 pub fn law_of_faults()
     ensures { FaultsAreFirst }
 {}

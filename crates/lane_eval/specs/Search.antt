@@ -38,8 +38,7 @@ module _ (holds : ℕ → Rule → Bool) (list : List Rule) where
     pub before : HoldBefore i place
     pub numbered : number ≡ rule.number
 
-  -- what is found below a count: the least index at which a rule is false, with the first such rule; or that there is
-  -- none
+  -- what is found below a count: the least index at which a rule is false, with the first such rule; or that there is none
   abbrev pub IsFirstFalse : ℕ → Option Found → Type 0
   IsFirstFalse count None = (i : ℕ) → i < count → AllHold i
   IsFirstFalse count (Some found) = (found.index < count) × ((i : ℕ) → i < found.index → AllHold i) × IsFirstAt found.index found.rule

@@ -1,5 +1,4 @@
-//! Vectors of 512 bits as the truths of gates: each operation of a gate in all places at once, and a whole net in one
-//! pass.
+//! Vectors of 512 bits as the truths of gates: each operation of a gate in all places at once, and a whole net in one pass.
 ghost use Rattle.std.specs.Prelude.{◌≡◌, ◌<◌, ◌≤◌, ◌&&◌, not, ℕ, [], length, take, get_or, IfOk};
 ghost use Rattle.nets.specs.Nets.{ReadsEarlier, gate_value, truth, truths, values};
 ghost use Rattle.lane_eval.specs.Lanes.{across, lane_bit};

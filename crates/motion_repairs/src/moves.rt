@@ -212,7 +212,7 @@ fn met_24(k: &RegisterControlsNow, y: &FlowNow) -> bool
         && (passes_on(k.w, k.m, &y.m) && (passes_on(k.m, k.e, &y.e) && goes_or_stays(k, y)))
 }
 
-/// If the path holds next, F has what it needs for that.
+/// If the path holds next: F loads if D loads a good fetch, else F is stalled and the path holds now.
 fn path_is_kept(k: &RegisterControlsNow, good: bool, now: bool, next: bool) -> bool
     ensures { result ≡ spec.path_is_kept (as_register_controls k.now) good now next }
 {

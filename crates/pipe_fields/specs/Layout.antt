@@ -82,8 +82,8 @@ pub record Fields : Type 0 where
 
 -- ---- the table of the fields
 
--- a field: its label in output, its number of bits and the row of its signal (none if it is hidden), and its number
--- in given fields
+-- a field: its label in output, its number of bits and the row of its signal (none if it is hidden), and how its
+-- number is read from the fields
 pub record Field : Type 0 where
   pub label : List ℕ
   pub spec : FieldSpec

@@ -10,7 +10,7 @@ use Rattle.ctl_rules.specs.ControlGates.{IsControlGate}
 use Rattle.ctl_rules.proofs.Kept.{tells_less}
 use Rattle.pipe_gates.specs.GateTruths.{IsAtomGate}
 
--- a gate that is made of three
+-- a gate that joins three others
 pub asked_three : {old new : Gates} {ctl : List Entry} {x y z g : ℕ} {f h k : List Bool → Assignment → (ℕ → Leaf) → Bool} (join : Bool → Bool → Bool → Bool)
     → ExtendsNet old new → IsInside old ctl → IsControlGate old ctl x f → IsControlGate old ctl y h → IsControlGate old ctl z k → IsGate new g (λ w. join (truth old x w) (truth old y w) (truth old z w))
     → IsControlGate new ctl g (λ w α cv. join (f w α cv) (h w α cv) (k w α cv))

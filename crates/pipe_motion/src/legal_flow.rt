@@ -123,7 +123,7 @@ fn reasons_and_turns(b: &mut NetBuilder, v: &FlowGates, je: bool, rm: bool) -> R
     b.and(reasons, last_two)
 }
 
-/// The flow is legal, in a file that fetches early from E (`je`) or M (`rm`) or not.
+/// The flow is legal. `je` and `rm` say whether the file fetches early from E and from M.
 pub fn flow_legal_gate(b: &mut NetBuilder, v: &FlowGates, je: bool, rm: bool) -> Result<u64, Memory>
     requires { HasFlow (length b.old.gates) v.now }
     ensures extends { ExtendsNet b.old b.new }

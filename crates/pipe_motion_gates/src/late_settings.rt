@@ -1,4 +1,4 @@
-//! The gates that decide lf, je and rm: a setting is 1 where its gate is false at some valuation.
+//! The gates that decide lf, je and rm: a setting is 1 if its gate is false at some valuation.
 ghost use Rattle.std.specs.Prelude.{◌≡◌, ◌<◌, ◌≤◌, ◌+◌, ◌&&◌, if◌then◌else◌, IfOk, length, not};
 ghost use Rattle.nets.specs.Nets.{ExtendsNet, truth};
 ghost use Rattle.ctl_atoms.specs.declared.leaf.Leaf.TheVariants.{Name};
@@ -126,7 +126,7 @@ fn permissive_legal(
     Ok(PermissiveFlow { flow, plain })
 }
 
-/// The gates that decide lf, je and rm: each setting holds where its gate is false at some valuation.
+/// The gates that decide lf, je and rm: a setting holds if its gate is false at some valuation.
 #[derive(Clone, Copy, Debug, PartialEq, Eq)]
 pub struct Late {
     pub lf: u64,

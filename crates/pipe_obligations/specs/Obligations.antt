@@ -90,8 +90,7 @@ module _ (v : Variant) (s : Settings) (c : Fields) (y : Flow) (mv : RegisterCont
   late_dst_e = destination_e (row v c.e.icode).conditional (set c.e.cnd) c.e.dst_e
 
   -- Where the value of a source is: with the youngest older instruction that writes the register, else in the
-  -- register file.
-  -- (A bubble writes no register.)
+  -- register file. (A bubble writes no register.)
   abbrev pub right_value : ℕ → ℕ → Leaf
   right_value source rest =
       if y.e.good && is_number cv source late_dst_e then Name signal.e_valE
@@ -139,7 +138,7 @@ module _ (v : Variant) (s : Settings) (c : Fields) (y : Flow) (mv : RegisterCont
   abbrev pub o14 : Bool
   o14 = not (works_in_e && has_operand_a (row v c.e.icode).alu_a) || is_number cv signal.alufun (alu_function (row v c.e.icode).selects c.e.ifun)
 
-  -- the flags are set exactly by a good instruction that goes on and sets them
+  -- the flags are set exactly by a good instruction with status 1 (AOK) that sets flags
   abbrev pub o15 : Bool
   o15 = is_truth α cv signal.set_cc (works_in_e && (row v c.e.icode).sets_flags)
 

@@ -144,7 +144,7 @@ module _ (x : RunContext) (t : ℕ) (c : Schedule) (p : PipeState) (f : ℕ → 
   live_e : RunReaches x.v x.image (in_e c)
   live_e = i.live (in_e c) (omega (arith, ap count e))
 
-  -- with lf: the word that M loads now is the register that the store in E reads
+  -- with lf: the word that M loads now is valA of the store in E
   loaded_now : stores_val_a re.memory ≡ true → is_good c.m ≡ true → p.m.dst_m ≡ p.e.src_a → f name.m_valM ≡ we.val_a
   loaded_now s m q =
       let hm = i.good_m m in

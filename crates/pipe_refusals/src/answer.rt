@@ -24,7 +24,7 @@ pub enum PipeAnswer {
     No(Refusal),
 }
 
-/// The rules from one on.
+/// The rules from an index on.
 fn rules_from(list: &[Rule], from: usize) -> &[Rule]
     requires { from ≤ length list.now }
     ensures { result.now ≡ drop from list.now }

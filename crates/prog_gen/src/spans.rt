@@ -133,7 +133,7 @@ fn stat(kind: u64) -> Span
     }
 }
 
-/// The icodes of a status; with a memory error the icode is that of a nop.
+/// The icodes that go with a status, if there was no error at memory.
 fn icode_of(count: u64, stat: u64) -> Span
     ensures { IsSpanOf result (fit.stat_allowed count false stat) }
 {
