@@ -7,7 +7,7 @@ pub enum CertWhy {
     /// It isn't a line of a certificate, or not the one that is required there.
     #[error("Syntax")]
     Syntax,
-    /// One of its numbers names no earlier term, no earlier claim, or no variable.
+    /// One of its numbers doesn't name an earlier term, an earlier claim or a variable, as its place requires.
     #[error("Number")]
     Number,
     /// It makes a claim that isn't justified.

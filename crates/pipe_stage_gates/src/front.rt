@@ -1,4 +1,4 @@
-//! The obligations on fetch and decode, 1 to 9, which count for any kind of instruction.
+//! The obligations on fetch and decode, 1 to 9, which don't depend on the kinds of what the stages hold.
 #![tactic(auto, using(nets::proofs::Truths::begins_more, ctl_formula::proofs::Inside::inside_more), unfolding(pipe_fields::specs::Layout::fields_of))]
 
 ghost use Rattle.std.specs.Prelude.{◌<◌, ◌≤◌, ◌&&◌, ◌||◌, not, IfOk};

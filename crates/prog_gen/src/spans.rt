@@ -266,7 +266,7 @@ fn write(v: Variant, before: &[u64], i: usize) -> Option<Span>
     }
 }
 
-/// The numbers that may follow those of `before`, if they are a span; `None` if they may be none.
+/// The numbers that may follow those of `before`, if they are a span; `None` if they might not be one.
 #[tactic(auto, unfolding(crate::specs::Choices::choice_allowed))]
 pub(crate) fn span_behind(v: Variant, before: &[u64]) -> Option<Span>
     requires { length before.now < field_count }
