@@ -147,7 +147,7 @@ all_same zero v x = refl
 all_same (suc n) zero x = refl
 all_same (suc n) (suc v) x = all_same n v x
 
--- the gates as the builder begins: that of false for each variable
+-- the gates with which the builder begins: false for each variable
 pub start_has : (h : Header) (net : Gates) (none : ℕ) (gates : List ℕ) → gates ≡ replicate (h.most + 1) none → none < length net.gates → HasGates h net gates none
 start_has h net none gates e inside = record {
   size = ap length e ∙ length-replicate (h.most + 1) none;
@@ -173,7 +173,7 @@ may_by h at j Other e zero_other fine follow low = tt
 pub may_build : (h : Header) (at : ℕ → AagLine) (vars : ℕ) → vars ≡ h.inputs → at 0 ≡ Other → IsFine h at (rest_from h) → InputsFollow h at → (j : ℕ) → j < rest_from h → MayBuild h vars j (at j)
 may_build h at vars e zero_other fine follow j low = subst (λ (n : ℕ). MayBuild h n j (at j)) (sym e) (may_by h at j (at j) refl zero_other fine follow low)
 
--- the values of all lines in place of those of the gates
+-- the values of all lines can replace those of the gates
 pub outputs_are : (h : Header) (at : ℕ → AagLine) (net new : Gates) (gates : List ℕ) (none : ℕ) (outs : List ℕ) → AreBuilt h at (rest_from h) net gates none
     → AreOutputs h at (gate_values net gates none) h.outputs new outs → AreOutputs h at (λ bits. solution h at bits (rest_from h)) h.outputs new outs
 outputs_are h at net new gates none outs b a = record {

@@ -1,4 +1,4 @@
--- What is written is read again.
+-- What is written is read back.
 use Rattle.std.proofs.Common.{◌≡◌, ℕ, ◌^◌, ◌<◌, Bool, true, false, ◌||◌, nat_lt, if◌then◌else◌, All, List, [], ◌∷◌, ◌++◌, length, drop, take_while, Some, None, unwrap_or, refl, sym, ap, ◌∙◌, arith}
 use Rattle.std.specs.List.{list_all}
 use Rattle.std.specs.Str.Parse.{IsNumeral, digits_value}

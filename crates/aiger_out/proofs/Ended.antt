@@ -1,4 +1,4 @@
--- The first line of a text, where a line feed ends it.
+-- The first line of a text, if a line feed ends it.
 use Rattle.std.proofs.lemmas.List.{length-drop, drop-drop, length-take-le}
 use Rattle.std.proofs.Common.{◌≡◌, ℕ, ◌+◌, ◌<◌, ◌≤◌, Bool, true, false, cond, not, List, [], ◌∷◌, length, take, drop, refl, sym, length-append, ap, ◌∙◌, arith}
 use Rattle.std.specs.List.{position_or_len}
@@ -42,7 +42,7 @@ pub ended_none : (bytes front rest : List ℕ) → front ≡ take (position_or_l
     length rest ≡ 0 → ended bytes ≡ []
 ended_none bytes front rest e f none = ended-none bytes (omega (arith, none, ap length f, length-drop (position_or_len is_line_feed bytes) bytes))
 
--- what stands behind the last line feed is that of what stands behind the first line
+-- what follows the last line feed is the same for the text after the first line
 pub unended_first : (bytes front rest : List ℕ) → front ≡ take (position_or_len is_line_feed bytes) bytes → rest ≡ drop (position_or_len is_line_feed bytes) bytes →
     0 < length rest → unended bytes ≡ unended (drop 1 rest)
 unended_first bytes front rest e f some =

@@ -1,4 +1,4 @@
--- What a line without a fault says.
+-- What follows if a line has no fault.
 use Rattle.std.proofs.Common.{◌≡◌, ℕ, ◌/◌, ◌%◌, ◌≤◌, Bool, true, false, not, ◌&&◌, ◌||◌, ◌==◌, nat_lt, nat_le, Option, None, refl, sym, ap, ◌∙◌, arith}
 use Rattle.std.proofs.lemmas.Bool.Decides.{nat_tests}
 use Rattle.std.proofs.lemmas.Bool.{not-false, or_parts, and_parts}
@@ -79,7 +79,7 @@ other_variable h x e =
     let z : x / 2 ≡ 0 = eqb-true (x / 2) 0 a.1 in
     omega (arith, z, b.0)
 
--- what a line defines is new, where it has no fault
+-- a variable that a line without a fault defines is new
 pub defines_new : (h : Header) (at : ℕ → AagLine) (j : ℕ) (line : AagLine) (v : ℕ) → line_fault h at j line ≡ None → defines h line v ≡ true → is_defined h at j v ≡ false
 defines_new h at j (Input x) v fine d = sym (ap (is_defined h at j) (eqb-true (x / 2) v (and_parts (may_be_defined h x) (x / 2 == v) d).1)) ∙ (fine_input h at j x fine).new
 defines_new h at j (And a) v fine d = sym (ap (is_defined h at j) (eqb-true (a.lhs / 2) v (and_parts (may_be_defined h a.lhs) (a.lhs / 2 == v) d).1)) ∙ (fine_and h at j a fine).new

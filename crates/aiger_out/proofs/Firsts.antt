@@ -111,6 +111,6 @@ firsts_start h at n e size = record {
     by v (inl z) = let f : first_at (set (replicate n nowhere) 0 0) v ≡ 0 = ap (λ (i : ℕ). get_or (set (replicate n nowhere) 0 0) i nowhere) z ∙ at_zero in grind (arith, nat_tests)
     by v (inr ne) = let f : first_at (set (replicate n nowhere) 0 0) v ≡ nowhere = at_other v ne in grind (arith, nat_tests)
 
--- a slice of a vector that was lent as a whole and came back
+-- a slice of a vector that was borrowed whole and returned
 pub lent : (n : ℕ) (new old : List ℕ) → length new ≡ n → take n (new ++ drop (length new) old) ≡ new
 lent n new old size = take-append-le n new (drop (length new) old) (omega (arith, size)) ∙ take_all n new (omega (arith, size))

@@ -12,7 +12,8 @@ use Rattle.aiger_out.specs.Form.{ands_from, defines, first_of, is_defined, may_b
 use Rattle.aiger_out.specs.Rows.{IsFine}
 use Rattle.aiger_out.proofs.Firsts.{defined_next}
 
--- lines stand in the writer's order: input k is variable k + 1, and AND k the next variable behind the inputs and the earlier ANDs
+-- the lines are in the writer's order: input k is variable k + 1, and AND k is the next variable after the inputs and
+-- the earlier ANDs
 pub record Laid (h : Header) (at : ℕ → AagLine) (outs : ℕ → ℕ) (first second : ℕ → ℕ) : Type 0 where
   pub total : h.most ≡ h.inputs + h.ands
   pub header : at 0 ≡ Other
@@ -36,7 +37,7 @@ half v = omega arith
 one_more : (v k : ℕ) → (nat_le v k || k + 1 == v) ≡ nat_le v (k + 1)
 one_more v k = grind (arith, nat_tests)
 
--- a line of a fresh literal defines its variable
+-- a line with a fresh literal defines its variable
 defines_one : (b : Bool) (x v : ℕ) → b ≡ true → (b && x == v) ≡ (x == v)
 defines_one true x v e = refl
 defines_one false x v e = absurd (cc)

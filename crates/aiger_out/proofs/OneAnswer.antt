@@ -41,9 +41,9 @@ search_to : (fault : ℕ → Option AagWhy) (n : ℕ) → NoneBefore fault n ⊎
 search_to fault zero = inl (λ j from l. absurd (omega (arith, l)))
 search_to fault (suc n) = next fault n (search_to fault n) (cases_lt 0 n)
 
--- ---- no fault stands behind the end
+-- ---- there is no fault after the end
 
--- where the second test fails too, there is no fault
+-- if the second test fails too, there is no fault
 pub no_fault : (b t : Bool) → t ≡ false → (if b then None else (if t then Some Syntax else None)) ≡ None
 no_fault true t e = refl
 no_fault false t e = ap (λ (s : Bool). if s then Some Syntax else None) e

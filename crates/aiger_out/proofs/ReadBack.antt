@@ -1,4 +1,4 @@
--- What the writer wrote is what the reader takes, where it isn't too large.
+-- The reader accepts what the writer wrote, unless it is too large.
 use Rattle.std.proofs.Common.{◌≡◌, ℕ, ◌+◌, ◌≤◌, ◌<◌, Bool, true, false, not, ◌||◌, ◌==◌, nat_lt, max, if◌then◌else◌, List, length, get_or, Option, Some, None, refl, sym, ap, ◌∙◌, subst, arith}
 use Rattle.std.proofs.lemmas.Bool.Decides.{nat_tests}
 use Rattle.nets.specs.Nets.{Gates, truth}
@@ -10,7 +10,7 @@ use Rattle.aiger_out.specs.Values.{IsNetOfText, Out, AreValues}
 use Rattle.aiger_out.specs.Written.{IsAagOf}
 use Rattle.aiger_out.proofs.OneAnswer.{not_both, one_solution}
 
--- a header without a fault has no latches, and room for its inputs and ANDs
+-- a header without a fault has no latches, and enough variables for its inputs and ANDs
 no_fault : (latches most outputs room : Bool) → first_of latches Latches (first_of (most || outputs || room) TooMany None) ≡ None → (latches ≡ false) × (room ≡ false)
 no_fault true most outputs room e = absurd (cc (e))
 no_fault false true outputs room e = absurd (cc (e))

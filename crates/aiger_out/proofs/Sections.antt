@@ -1,4 +1,4 @@
--- A header and five sections of lines behind it, by their places.
+-- A header, followed by five sections of lines, by their places.
 use Rattle.std.proofs.Common.{◌≡◌, ℕ, suc, ◌+◌, ◌<◌, All, List, ◌∷◌, ◌++◌, length, slice_get, Some, refl, ap, ◌∙◌, arith, length-append}
 use Rattle.std.proofs.lemmas.List.Elements.{All-append, All-cons}
 use Rattle.y86_base.specs.Text.{HasNoLineFeed}
@@ -8,7 +8,7 @@ use Rattle.aiger_out.proofs.Each.{each_at, each_free, each_size, left_part, righ
 behind_first : (x : List ℕ) (xs : List (List ℕ)) (n k : ℕ) → n ≡ 1 + k → slice_get (x ∷ xs) n ≡ slice_get xs k
 behind_first x xs n k e = let s : n ≡ suc k = omega (arith, e) in ap (slice_get (x ∷ xs)) s
 
--- a section in front, and what stands behind it
+-- a section at the front, and what follows it
 in_front : (line : ℕ → List ℕ) (n k : ℕ) (rest : List (List ℕ)) → k < n → slice_get (each line n ++ rest) k ≡ Some (line k)
 in_front line n k rest l = left_part (each line n) rest k (omega (arith, each_size line n, l)) ∙ each_at line n k l
 

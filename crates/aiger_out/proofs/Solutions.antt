@@ -20,7 +20,7 @@ pub solution_next : (h : Header) (at : ℕ → AagLine) (bits : List Bool) (j v 
 unfolding solution
 solution_next h at bits j v = rw add-one refl
 
--- the values where a line defines a variable, and where it doesn't
+-- the values if a line defines a variable, and if it doesn't
 defined_value : (h : Header) (at : ℕ → AagLine) (bits : List Bool) (j v : ℕ) → defines h (at j) v ≡ true → solution h at bits (j + 1) v ≡ line_value bits (solution h at bits j) j (at j)
 defined_value h at bits j v d = solution_next h at bits j v ∙ ap (λ (b : Bool). if b then line_value bits (solution h at bits j) j (at j) else solution h at bits j v) d
 
@@ -68,7 +68,7 @@ constant_false h at bits (suc n) =
     constant_more h (at n) (line_value bits (solution h at bits n) n (at n)) (solution h at bits n 0) (two_truths (defines h (at n) 0)) (constant_false h at bits n)
 
 module _ (h : Header) (at : ℕ → AagLine) (bits : List Bool) (n : ℕ) (fine : IsFine h at n) (header : at 0 ≡ Other) where
-  -- no line but Other stands at the header's place
+  -- the line at the header's place is Other
   from_one : (j : ℕ) (line : AagLine) → at j ≡ line → (line ≡ Other → ⊥) → 1 ≤ j
   from_one zero line e other = absurd (other (sym e ∙ header))
   from_one (suc j) line e other = omega arith

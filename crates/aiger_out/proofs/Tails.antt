@@ -1,4 +1,4 @@
--- The lines behind the AND lines, one after another.
+-- The lines after the AND lines, one after another.
 use Rattle.std.proofs.Common.{◌≡◌, ◌⊎◌, inl, inr, ℕ, zero, suc, ◌+◌, ◌-◌, ◌<◌, ◌≤◌, Bool, true, false, ◌&&◌, ◌||◌, ◌==◌, nat_lt, if◌then◌else◌, List, [], ◌∷◌, length, drop, slice_get, Option, Some, None, refl, sym, ap, ◌∙◌, arith, add-one, length-drop}
 use Rattle.std.specs.Option.{option_map_or}
 use Rattle.std.proofs.lemmas.Bool.{cases_lt, or_left}
@@ -13,7 +13,7 @@ use Rattle.aiger_out.specs.Form.{comment_within, tail_fault, is_symbol, is_comme
 use Rattle.aiger_out.specs.Tail.{tail_fault_at, IsTail, IsTailFault}
 use Rattle.aiger_out.proofs.RowSteps.{slice_get_drop}
 
--- so many lines are symbols
+-- the first k lines are symbols
 pub record TailTo (h : Header) (lines : List (List ℕ)) (more : Bool) (k : ℕ) : Type 0 where
   pub inside : k ≤ length lines
   pub plain : comment_within lines 0 k ≡ false
@@ -29,7 +29,7 @@ comment_later lines k (suc d) e =
     let s : k + suc d ≡ (k + d) + 1 = omega arith in
     ap (comment_within lines 0) s ∙ (comment_next lines (k + d) ∙ or_left (comment_within lines 0 (k + d)) (option_map_or is_comment (slice_get lines (k + d)) false) (comment_later lines k d e))
 
--- the fault of a line that is there, where isnt comment stands before
+-- the fault of a line that exists, if no comment comes before it
 there : (h : Header) (lines : List (List ℕ)) (more : Bool) (k : ℕ) (line : List ℕ) → comment_within lines 0 k ≡ false → slice_get lines k ≡ Some line
     → tail_fault_at h lines more k ≡ (if is_symbol h line || is_comment line then None else Some Syntax)
 there h lines more k line plain is =
@@ -137,7 +137,7 @@ tail_rest h lines more k t le is_so = record {
   before = t.before;
 }
 
--- the same of a text, read so far
+-- the same for a text of which k lines are read
 pub record TailRead (h : Header) (text : List ℕ) (k : ℕ) (left : List ℕ) : Type 0 where
   pub to : TailTo h (ended text) (has_more text) k
   pub rest : ended left ≡ drop k (ended text)
@@ -152,7 +152,7 @@ at_first h text k left line behind r is =
 at_end : (h : Header) (text : List ℕ) (k : ℕ) (left : List ℕ) → TailRead h text k left → ended left ≡ [] → length (ended text) ≤ k
 at_end h text k left r none = omega (arith, length-drop k (ended text), ap length (sym r.rest ∙ none))
 
--- what is left is what stands behind the last line feed
+-- what is left is what follows the last line feed
 left_over : (h : Header) (text : List ℕ) (k : ℕ) (left : List ℕ) → TailRead h text k left → ended left ≡ [] → has_more text ≡ nat_lt 0 (length left)
 left_over h text k left r none = ap (λ (xs : List ℕ). nat_lt 0 (length xs)) (sym r.more ∙ ap (λ (xs : List (List ℕ)). drop (length (with_line_feeds xs)) left) none)
 
@@ -187,7 +187,7 @@ pub read_rest : (h : Header) (text : List ℕ) (k : ℕ) (left : List ℕ) → T
 read_rest h text k left r none some =
     tail_rest h (ended text) (has_more text) k r.to (at_end h text k left r none) (left_over h text k left r none ∙ some_over (length left) some)
 
--- nothing is left of a text that is empty
+-- an empty text has no lines left
 no_bytes : (left : List ℕ) → length left ≡ 0 → ended left ≡ []
 no_bytes [] e = refl
 no_bytes (x ∷ xs) e = absurd (omega (arith, e))

@@ -60,7 +60,7 @@ named count k rest (x ∷ name) n e low some =
     let t : nat_lt n count ≡ true = grind (arith, nat_tests) in
     ap (names_below count) e ∙ ap (λ (b : Bool). b && true) t
 
--- a symbol's line has no fault, behind a comment or not
+-- a symbol's line has no fault, whether after a comment or not
 no_tail_fault : (h : Header) (b : Bool) (line : List ℕ) (c : Bool) → is_symbol h line ≡ true → (if b then None else (if is_symbol h line || c then None else Some Syntax)) ≡ None
 no_tail_fault h true line c e = refl
 no_tail_fault h false line c e = ap (λ (t : Bool). if t || c then None else Some Syntax) e
@@ -129,7 +129,7 @@ module _ (h : Header) (outs : List ℕ) (ands : List code.And) (numbers : List �
       (named h.outputs k (decimal k ++ (32 ∷ 79 ∷ decimal (get_or numbers k 0))) (79 ∷ decimal (get_or numbers k 0)) k
       (number_read k (32 ∷ 79 ∷ decimal (get_or numbers k 0)) (omega (arith, l, w.outputs)) refl) l (omega arith))
 
-  -- behind the AND lines
+  -- after the AND lines
   tail_by : (j : ℕ) (x : Option (List ℕ)) (r : Option AagWhy) → rest_from h ≤ j → slice_get (ended text) j ≡ x → ((b : Bool) → (if b then None else tail_fault h x (j == length (ended text) && false)) ≡ r)
       → text_fault text h j ≡ r
   unfolding fault_at
@@ -261,7 +261,7 @@ module _ (net : Gates) (gates numbers : List ℕ) (h : Header) (literals outs : 
     last = line_count h outs ands numbers words text is ∙ ap (λ (n : ℕ). rest_from h + h.inputs + n) hd.outputs;
   }
 
--- the same of rules, as the writer has them
+-- the same for rules, as the writer has them
 pub written_out : (net : Gates) (rules : List Rule) (h : Header) (literals outs slice : List ℕ) (ands : List code.And) (start text : List ℕ) (vars : ℕ) → IsGraphOf net.vars net.gates literals ands
     → AreNegated (length rules) (gates_of rules) literals outs → slice ≡ outs → vars ≡ net.vars → start ≡ []
     → IsHeaderOf h vars (length rules) (length ands) × (text ≡ start ++ with_line_feeds (written_lines h slice ands (numbers_of rules))) → IsAagOf net (gates_of rules) (numbers_of rules) text h

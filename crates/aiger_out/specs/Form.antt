@@ -34,7 +34,7 @@ abbrev pub and_line : Option AndLine → AagLine
 and_line None = Other
 and_line (Some a) = And a
 
--- what a line says that stands at a place, if it says what it must
+-- the contents of a line at a place, if it has the form that is required there
 abbrev pub line_read : Header → ℕ → List ℕ → AagLine
 line_read h j line =
     if j == 0 then Other
@@ -43,7 +43,7 @@ line_read h j line =
     else (if nat_lt j (rest_from h) then and_line (three_numbers line)
     else Other)))
 
--- what the line at a place says; `Other` too where there is none
+-- the contents of the line at a place; `Other` too if there is none
 unfoldable pub line_at : Header → List (List ℕ) → ℕ → AagLine
 line_at h lines j = option_map_or (line_read h j) (slice_get lines j) Other
 
@@ -63,12 +63,12 @@ defines h (And a) v = may_be_defined h a.lhs && a.lhs / 2 == v
 defines h (Output x) v = false
 defines h Other v = false
 
--- a line before a place defines a variable, where `at` gives the line at each; variable 0 is the constant
+-- a line before a place defines a variable; `at` is the line at each place, and variable 0 is the constant
 unfoldable pub is_defined : Header → (ℕ → AagLine) → ℕ → ℕ → Bool
 is_defined h at zero v = v == 0
 is_defined h at (suc j) v = is_defined h at j v || defines h (at j) v
 
--- ---- the fault of a line by itself: the first in the order of the reasons
+-- ---- the fault of a line by itself: the first in the order of the errors
 
 abbrev pub first_of : Bool → AagWhy → Option AagWhy → Option AagWhy
 first_of holds why rest = if holds then Some why else rest
@@ -78,7 +78,7 @@ header_fault limit h =
     first_of (not (h.latches == 0)) Latches
     (first_of (nat_lt limit h.most || nat_lt limit h.outputs || nat_lt h.most (h.inputs + h.ands)) TooMany None)
 
--- an operand stands behind what defines it; an output may stand before
+-- an operand comes after the line that defines it; an output may come before
 abbrev pub line_fault : Header → (ℕ → AagLine) → ℕ → AagLine → Option AagWhy
 line_fault h at j Other = Some Syntax
 line_fault h at j (Input x) =
@@ -92,7 +92,7 @@ line_fault h at j (And a) =
     (first_of (is_defined h at j (a.lhs / 2)) Twice
     (first_of (not (is_defined h at j (a.rhs0 / 2)) || not (is_defined h at j (a.rhs1 / 2))) Undefined None))
 
--- a symbol: `i` or `o`, a number below how many there are, a blank, and a name of one byte at least
+-- a symbol: `i` or `o`, a number below the number of inputs or outputs, a blank, and a name of at least one byte
 abbrev pub is_name : Option (List ℕ) → Bool
 is_name None = false
 is_name (Some []) = false
@@ -109,28 +109,29 @@ symbol_behind count (Some text) = names_below count (number_at text)
 abbrev pub is_symbol : Header → List ℕ → Bool
 is_symbol h line = symbol_behind h.inputs (after_byte 105 line) || symbol_behind h.outputs (after_byte 111 line)
 
--- the line `c`, behind which anything may stand
+-- the line `c`, which anything may follow
 abbrev pub is_comment : List ℕ → Bool
 is_comment line = bytes_eq line (codes "c")
 
--- a line `c` stands from one place on, and before so many lines more
+-- one of the given number of lines from a place on is the line `c`
 unfoldable pub comment_within : List (List ℕ) → ℕ → ℕ → Bool
 comment_within lines from zero = false
 comment_within lines from (suc n) = comment_within lines from n || option_map_or is_comment (slice_get lines (from + n)) false
 
--- behind the AND lines stand symbols, up to a `c` or the end of the text
+-- symbols follow the AND lines, up to a `c` or the end of the text
 abbrev pub tail_fault : Header → Option (List ℕ) → Bool → Option AagWhy
 tail_fault h None unended = if unended then Some Syntax else None
 tail_fault h (Some line) unended = if is_symbol h line || is_comment line then None else Some Syntax
 
--- the fault of the line at a place behind the header, of the lines of a text and whether something stands behind the last line feed
+-- the fault of the line at a place after the header, given the lines of a text and whether anything follows the last
+-- line feed
 unfoldable pub fault_at : Header → List (List ℕ) → Bool → ℕ → Option AagWhy
 fault_at h lines more j =
     if nat_lt j (rest_from h) then line_fault h (line_at h lines) j (line_at h lines j)
     else (if comment_within lines (rest_from h) (j - rest_from h) then None
     else tail_fault h (slice_get lines j) (j == length lines && more))
 
--- the bounds that the reader's arithmetic stands on
+-- the bounds on which the reader's arithmetic relies
 pub record IsBounded (h : Header) : Type 0 where
   pub most : h.most ≤ 1000000
   pub outputs : h.outputs ≤ 1000000
@@ -138,7 +139,7 @@ pub record IsBounded (h : Header) : Type 0 where
 
 -- ---- a text
 
--- something stands behind the last line feed
+-- something follows the last line feed
 abbrev pub has_more : List ℕ → Bool
 has_more text = nat_lt 0 (length (unended text))
 

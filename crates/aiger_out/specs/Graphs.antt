@@ -13,13 +13,13 @@ doubled n = 2 * n
 abbrev pub and_at : List code.And → ℕ → code.And
 and_at ands k = get_or ands k (record { first = 0; second = 0 })
 
--- values of variables that the equations of a graph hold of, at these bits of the net's variables
+-- values of variables that solve the equations of a graph, at these bits of the net's variables
 pub record IsGraphSolution (vars : ℕ) (bits : List Bool) (ands : List code.And) (env : ℕ → Bool) : Type 0 where
   pub constant : env 0 ≡ false
   pub inputs : (k : ℕ) → k < vars → env (k + 1) ≡ get_or bits k false
   pub joins : (k : ℕ) → k < length ands → env (vars + (k + 1)) ≡ (literal_value env (and_at ands k).first && literal_value env (and_at ands k).second)
 
--- the literal of a gate, by those of the earlier ones: a conjunction has an AND of its own, and no other gate one
+-- the literal of a gate, from those of the earlier ones; a conjunction has an AND of its own, other gates have none
 abbrev pub IsLiteralOf : ℕ → Gate → List ℕ → List code.And → List code.And → ℕ → Type 0
 IsLiteralOf vars (Const true) literals old new x = (x ≡ 1) × (new ≡ old)
 IsLiteralOf vars (Const false) literals old new x = (x ≡ 0) × (new ≡ old)
@@ -29,7 +29,7 @@ IsLiteralOf vars (Not a) literals old new x =
 IsLiteralOf vars (And a b) literals old new x =
     (x ≡ 2 * (vars + (length old + 1))) × (new ≡ old ++ record { first = get_or literals a 0; second = get_or literals b 0 } ∷ [])
 
--- each gate has a literal of its truth, over variables that come before it, and there are no more ANDs than gates
+-- each gate has a literal with its truth, over variables that come before it, and there are no more ANDs than gates
 pub record IsGraphOf (vars : ℕ) (gates : List Gate) (literals : List ℕ) (ands : List code.And) : Type 0 where
   pub size : length literals ≡ length gates
   pub few : length ands ≤ length gates

@@ -5,7 +5,7 @@ use Rattle.y86_base.specs.Text.{after_byte, begins, behind, below_word, is_decim
 use Rattle.aiger_out.specs.declared.form.Header.{Header}
 use Rattle.aiger_out.specs.declared.form.AndLine.{AndLine}
 
--- a byte in front of the first line, where there is one
+-- a byte put before the first line, if there is one
 abbrev pub grown : ℕ → List (List ℕ) → List (List ℕ)
 grown byte [] = []
 grown byte (line ∷ lines) = (byte ∷ line) ∷ lines
@@ -15,7 +15,7 @@ abbrev pub ended : List ℕ → List (List ℕ)
 ended [] = []
 ended (byte ∷ bytes) = if is_line_feed byte then [] ∷ ended bytes else grown byte (ended bytes)
 
--- what stands behind the last line feed
+-- what follows the last line feed
 abbrev pub unended : List ℕ → List ℕ
 unended text = drop (length (with_line_feeds (ended text))) text
 
@@ -23,16 +23,16 @@ unended text = drop (length (with_line_feeds (ended text))) text
 abbrev pub counted : ℕ → ℕ
 counted n = unwrap_or (below_word n) (2 ^ 64 - 1)
 
--- a number in front, as many decimal digits as there are, and what stands behind it
+-- a number at the front, with as many decimal digits as there are, and what follows it
 abbrev pub number_at : List ℕ → Option (ℕ × List ℕ)
 number_at text =
     if begins is_decimal text then Some (counted (digits_value 10 (take_while is_decimal text)), behind is_decimal text) else None
 
--- a number behind one blank, and what stands behind it
+-- a number after one blank, and what follows it
 abbrev pub number_behind : List ℕ → Option (ℕ × List ℕ)
 number_behind text = option_and_then number_at (after_byte 32 text)
 
--- a number that nothing stands behind
+-- a number that nothing follows
 abbrev pub alone : ℕ × List ℕ → Option ℕ
 alone (n, []) = Some n
 alone (n, byte ∷ bytes) = None
@@ -47,7 +47,7 @@ three_numbers line =
     option_and_then (λ a. option_and_then (λ b. option_and_then (λ c. option_map (λ n. record { lhs = a.0; rhs0 = b.0; rhs1 = n }) (alone c))
     (number_behind b.1)) (number_behind a.1)) (number_at line)
 
--- what stands behind `aag`
+-- what follows `aag`
 abbrev pub behind_aag : List ℕ → Option (List ℕ)
 behind_aag line = option_and_then (after_byte 103) (option_and_then (after_byte 97) (after_byte 97 line))
 

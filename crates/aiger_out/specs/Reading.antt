@@ -1,4 +1,4 @@
--- What the reader answers.
+-- The results of the reader.
 use Rattle.std.specs.Prelude.{◌≡◌, ℕ, ◌+◌, List, ◌⊎◌}
 use Rattle.nets.specs.Nets.{Gates}
 use Rattle.aiger_out.specs.declared.fault.AagError.{AagError}
@@ -13,12 +13,12 @@ use Rattle.aiger_out.specs.Rows.{IsFine, IsFirstFault}
 use Rattle.aiger_out.specs.Tail.{IsTail, IsTailFault}
 use Rattle.aiger_out.specs.Solution.{IsNetOf}
 
--- the first fault of a text; out of memory says nothing of it
+-- the first fault of a text; out of memory says nothing about it
 abbrev pub IsError : ℕ → List ℕ → AagError → Type 0
 IsError limit text (Fault f) = IsFault limit text f.line f.why
 IsError limit text Memory = Unit {0}
 
--- neither the lines before the symbols nor those behind have a fault, and a net has their outputs
+-- neither the lines before the symbols nor the later ones have a fault, and a net has their outputs
 pub record AreGoodLines (h : Header) (at : ℕ → AagLine) (left : List ℕ) (net : Gates) (outs : List ℕ) : Type 0 where
   pub fine : IsFine h at (rest_from h)
   pub tail : IsTail h (ended left) (has_more left)

@@ -17,16 +17,16 @@ line_value bits env j Other = false
 abbrev pub with_line : Header → List Bool → (ℕ → Bool) → ℕ → AagLine → ℕ → Bool
 with_line h bits env j line v = if defines h line v then line_value bits env j line else env v
 
--- after so many lines
+-- the values after the given number of lines
 unfoldable pub solution : Header → (ℕ → AagLine) → List Bool → ℕ → ℕ → Bool
 solution h at bits zero v = false
 solution h at bits (suc j) v = with_line h bits (solution h at bits j) j (at j) v
 
--- the values of the gates that stand for variables, and of the gate for those that have none
+-- the values of the gates for variables, and of the gate for those that have none
 abbrev pub gate_values : Gates → List ℕ → ℕ → List Bool → ℕ → Bool
 gate_values net gates none bits v = truth net (get_or gates v none) bits
 
--- a line may be built: its literal may define a variable, and as an input it is one that there is
+-- a line can be built: its literal may define a variable, and an input is one of the net's variables
 abbrev pub MayBuild : Header → ℕ → ℕ → AagLine → Type 0
 MayBuild h vars j (Input x) = (may_be_defined h x ≡ true) × (1 ≤ j) × (j ≤ vars)
 MayBuild h vars j (And a) = may_be_defined h a.lhs ≡ true
@@ -43,17 +43,17 @@ pub record IsBuilt (h : Header) (old : Gates) (before : List ℕ) (none j : ℕ)
   pub has : HasGates h new after none
   pub values : (bits : List Bool) (v : ℕ) → gate_values new after none bits v ≡ with_line h bits (gate_values old before none bits) j line v
 
--- so many lines are
+-- `count` lines are built
 pub record AreBuilt (h : Header) (at : ℕ → AagLine) (count : ℕ) (net : Gates) (gates : List ℕ) (none : ℕ) : Type 0 where
   pub has : HasGates h net gates none
   pub values : (bits : List Bool) (v : ℕ) → gate_values net gates none bits v ≡ solution h at bits count v
 
--- so many outputs have gates
+-- `count` outputs have gates
 pub record AreOutputs (h : Header) (at : ℕ → AagLine) (values : List Bool → ℕ → Bool) (count : ℕ) (net : Gates) (outs : List ℕ) : Type 0 where
   pub size : length outs ≡ count
   pub gates : (i : ℕ) → i < count → IsGate net (get_or outs i 0) (λ bits. literal_value (values bits) (output_literal (at (outputs_from h + i))))
 
--- an input's line stands at a place of inputs
+-- an input's line is at a place of inputs
 abbrev pub InputsFollow : Header → (ℕ → AagLine) → Type 0
 InputsFollow h at = (j x : ℕ) → at j ≡ Input x → (1 ≤ j) × (j ≤ h.inputs)
 

@@ -1,4 +1,4 @@
--- The values of the outputs of an AIGER text, by its lines as equations.
+-- The values of the outputs of an AIGER text, with its lines as equations.
 use Rattle.std.specs.Prelude.{◌≡◌, ℕ, ◌+◌, ◌-◌, ◌/◌, ◌%◌, ◌<◌, Bool, true, false, not, ◌&&◌, ◌==◌, if◌then◌else◌, List, length, get_or}
 use Rattle.nets.specs.Nets.{Gates, truth}
 use Rattle.aiger_out.specs.declared.form.Header.{Header}
@@ -7,11 +7,11 @@ use Rattle.aiger_out.specs.declared.form.AagLine.TheVariants.{Input, Output, And
 use Rattle.aiger_out.specs.Lines.{ended}
 use Rattle.aiger_out.specs.Form.{line_at, outputs_from, rest_from, is_defined, IsAag}
 
--- the value of a literal where variables have these values
+-- the value of a literal if variables have these values
 abbrev pub literal_value : (ℕ → Bool) → ℕ → Bool
 literal_value env x = if x % 2 == 1 then not (env (x / 2)) else env (x / 2)
 
--- what a line asks of the values of variables, at these bits of the inputs in the order of their lines
+-- a line's equation on the values of variables, at these bits of the inputs in the order of their lines
 abbrev pub IsMet : List Bool → (ℕ → Bool) → ℕ → AagLine → Type 0
 IsMet bits env j (Input x) = env (x / 2) ≡ get_or bits (j - 1) false
 IsMet bits env j (And a) = env (a.lhs / 2) ≡ (literal_value env a.rhs0 && literal_value env a.rhs1)

@@ -1,4 +1,4 @@
--- The lines that the writer writes, and what they say.
+-- The lines that the writer writes, and what they mean.
 use Rattle.std.specs.Prelude.{◌≡◌, ℕ, zero, suc, ◌+◌, ◌*◌, Bool, not, codes, List, [], ◌∷◌, ◌++◌, length, get_or, slice_get, Some, max, ◌<◌, ◌≤◌}
 use Rattle.nets.specs.Nets.{Gates, truth}
 use Rattle.y86_base.specs.Numeral.{numeral}
@@ -13,7 +13,7 @@ use Rattle.aiger_out.specs.Values.{Out}
 abbrev pub decimal : ℕ → List ℕ
 decimal n = numeral 10 1 n
 
--- a number behind a blank
+-- a number after a blank
 abbrev pub spaced : ℕ → List ℕ
 spaced n = 32 ∷ decimal n
 
@@ -31,14 +31,14 @@ input_symbol k = 105 ∷ (decimal k ++ (32 ∷ 120 ∷ decimal k))
 abbrev pub output_symbol : ℕ → ℕ → List ℕ
 output_symbol k number = 111 ∷ (decimal k ++ (32 ∷ 79 ∷ decimal number))
 
--- so many lines, by their places
+-- the given number of lines, by their places
 abbrev pub each : (ℕ → List ℕ) → ℕ → List (List ℕ)
 each line zero = []
 each line (suc n) = each line n ++ line n ∷ []
 
--- The text of a net with one output for each of some gates, named by a number. It has the form but for the bound of a million, and no more
--- variables than the net has variables and gates. Its inputs are the variables in their order, each output is 1 exactly where its gate is
--- false, and the symbols name all of them.
+-- The text of a net with one output for each of some gates, named by a number. It has the form, except for the bound
+-- of a million, and at most as many variables as the net has variables and gates. Its inputs are the variables in
+-- their order, each output is 1 exactly if its gate is false, and the symbols name all of them.
 pub record IsAagOf (net : Gates) (gates numbers : List ℕ) (text : List ℕ) (h : Header) : Type 0 where
   pub form : IsAag (max h.most h.outputs) text h
   pub small : h.most ≤ net.vars + length net.gates

@@ -28,7 +28,7 @@ gates_of rules = map gate_of rules
 abbrev pub numbers_of : List Rule → List ℕ
 numbers_of rules = map number_of rules
 
--- the header of a net of so many variables, outputs and ANDs, whose literals are words
+-- the header for a net with these numbers of variables, outputs and ANDs; its literals fit in words
 pub record IsHeaderOf (h : Header) (vars outs_count ands_count : ℕ) : Type 0 where
   pub most : h.most ≡ vars + ands_count
   pub inputs : h.inputs ≡ vars
@@ -43,7 +43,7 @@ pub record IsNegated (literals : List ℕ) (gate x : ℕ) : Type 0 where
   pub variable : x / 2 ≡ get_or literals gate 0 / 2
   pub negated : (env : ℕ → Bool) → literal_value env x ≡ not (literal_value env (get_or literals gate 0))
 
--- so many literals are the negations of those of gates
+-- `count` literals are the negations of those of gates
 pub record AreNegated (count : ℕ) (gates literals outs : List ℕ) : Type 0 where
   pub size : length outs ≡ count
   pub all : (k : ℕ) → k < count → IsNegated literals (get_or gates k 0) (get_or outs k 0)

@@ -13,7 +13,7 @@ use nets::NetBuilder;
 use std::alloc::Global;
 use y86_base::Memory;
 
-/// A gate for the value of a literal, by the gates of variables, and the gate of those that have none.
+/// A gate for the value of a literal, from the gates of variables and the gate `none` for those that have none.
 fn literal_gate(b: &mut NetBuilder, gates: &[u64], none: u64, x: u64) -> Result<u64, Memory>
     requires { (v : ℕ) → get_or gates.now v none < length b.old.gates }
     ensures extends { ExtendsNet b.old b.new }
@@ -69,7 +69,7 @@ fn put_lines(b: &mut NetBuilder, gates: &mut [u64], none: u64, t: &Table) -> Res
     Ok(())
 }
 
-/// The literal of an output line, and that of false for another.
+/// The literal of an output line; for any other line, that of false.
 fn output_literal(line: AagLine) -> u64
     ensures { result ≡ output_literal line }
 {
@@ -103,7 +103,7 @@ fn put_outputs(
     Ok(outs)
 }
 
-/// Gates for all lines: those of the variables, and of them those of the outputs.
+/// Gates for all lines: those of the variables, and from them those of the outputs.
 #[tactic(auto, using(crate::proofs::Built::outputs_are, nets::proofs::Truths::begins_more))]
 pub(crate) fn put_all(
     alloc: Global,

@@ -9,7 +9,7 @@ use crate::form::{AagLine, AndLine, Header};
 use crate::rows::{rest_from, row_at};
 use crate::table::{Table, may_be_defined};
 
-/// A literal of no variable that there is.
+/// A literal that is over the greatest one.
 fn is_over(h: Header, x: u64) -> bool
     requires { spec.IsBounded h }
     ensures { result ≡ nat_lt (spec.greatest_literal h) x }
@@ -50,7 +50,7 @@ fn input_fault(t: &Table, j: u64, x: u64) -> Option<AagWhy>
     None
 }
 
-/// The fault of an output line, which may stand before what defines its variable.
+/// The fault of an output line. It may come before the line that defines its variable.
 fn output_fault(t: &Table, j: u64, x: u64) -> Option<AagWhy>
     requires from { 1 ≤ j }
     requires to { j < spec.rest_from t.now.header }
@@ -79,7 +79,7 @@ fn line_fault(t: &Table, j: u64) -> Option<AagWhy>
     }
 }
 
-/// The first line behind the header and before the symbols that has a fault, by its number.
+/// The first line after the header and before the symbols that has a fault, with its number.
 pub(crate) fn first_fault(t: &Table) -> Option<AagFault>
     ensures { MatchOption result (IsFine t.now.header (row t.now.rows.items) (spec.rest_from t.now.header))
         (λ f. IsFirstFault t.now.header (row t.now.rows.items) f) }

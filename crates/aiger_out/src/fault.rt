@@ -1,9 +1,9 @@
-//! What can be wrong with an AIGER text.
+//! The errors of an AIGER text.
 
-/// Why a text isn't of the form, in the order in which the reasons of one line count.
+/// Why a text doesn't have the form. If a line has several errors, the first one in this order is reported.
 #[derive(Clone, Copy, Debug, PartialEq, Eq)]
 pub enum AagWhy {
-    /// A line isn't of the form of its place, or the text ends before it.
+    /// A line doesn't have the form that is required at its place, or the text ends before it.
     Syntax,
     /// The header has latches.
     Latches,
@@ -11,9 +11,9 @@ pub enum AagWhy {
     TooMany,
     /// A literal is over 2M+1, or can't define a variable: it is odd, or under 2.
     Literal,
-    /// A variable is defined once more.
+    /// A variable is defined a second time.
     Twice,
-    /// An operand or an output isn't defined, an operand not before its line.
+    /// An operand isn't defined before its line, or an output isn't defined at all.
     Undefined,
 }
 
@@ -24,7 +24,7 @@ pub struct AagFault {
     pub why: AagWhy,
 }
 
-/// Why a text isn't read.
+/// Why a text can't be read.
 #[derive(Clone, Copy, Debug, PartialEq, Eq)]
 pub enum AagError {
     Fault(AagFault),

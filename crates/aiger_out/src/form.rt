@@ -1,4 +1,4 @@
-//! What the lines of an AIGER text say.
+//! The contents of the lines of an AIGER text.
 
 /// The numbers of a header: the largest variable, and how many inputs, latches, outputs and ANDs there are.
 #[derive(Clone, Copy)]
@@ -18,7 +18,8 @@ pub struct AndLine {
     pub rhs1: u64,
 }
 
-/// A line of a text. `Other` is one that isn't of the form of its place, and one of no number.
+/// A line of a text. `Other` is any other line: one without the form that is required at its place, the header, or a
+/// line after the ANDs.
 #[derive(Clone, Copy)]
 pub enum AagLine {
     Input(u64),

@@ -15,14 +15,14 @@ pub struct And {
     pub second: u64,
 }
 
-/// A literal for each gate, and the ANDs that they stand on.
+/// A literal for each gate, and the ANDs that these literals need.
 #[derive(Drop)]
 pub struct Graph {
     pub literals: Vec<u64>,
     pub ands: Vec<And>,
 }
 
-/// The other literal of a variable.
+/// The negation of a literal.
 pub(crate) fn negated(x: u64) -> u64
     ensures value { (env : ℕ → Bool) → literal_value env result ≡ not (literal_value env x) }
     ensures variable { result / 2 ≡ x / 2 }
@@ -30,7 +30,7 @@ pub(crate) fn negated(x: u64) -> u64
     if x % 2 == 1 { x - 1 } else { x + 1 }
 }
 
-/// The literal of a variable, counted from 0; the answer is out of memory where there is none of 64 bits.
+/// The literal of a variable, counted from 0; out of memory if it doesn't fit in 64 bits.
 pub(crate) fn literal_of(variable: u64) -> Result<u64, Memory>
     ensures { IfOk result (λ x. x ≡ doubled variable) }
 {
@@ -40,7 +40,7 @@ pub(crate) fn literal_of(variable: u64) -> Result<u64, Memory>
     }
 }
 
-/// The literal of a gate behind others, whose AND is put where it needs one.
+/// The literal of a gate after the earlier ones. Appends its AND if it needs one.
 fn gate_literal(vars: u64, gate: Gate, literals: &[u64], ands: &mut Vec<And>) -> Result<u64, Memory>
     requires vars { vars < 4294967296 }
     requires earlier { ReadsEarlier vars (length literals.now) gate }

@@ -9,8 +9,8 @@ ghost use Rattle.aiger_out.specs.Lines.{ended};
 ghost use Rattle.aiger_out.specs.Values.{HaveOneSolution, IsNetOfText};
 ghost use Rattle.aiger_out.specs.Written.{IsAagOf};
 
-/// A text has the form, or it has a fault, and not both; it has one fault at most, since the first line with a fault
-/// is told, and the first of its reasons.
+/// A text either has the form or has a fault. It has at most one fault: the first line with a fault, and the first of
+/// that line's errors.
 pub fn law_of_form()
     ensures some { (limit : ℕ) (text : List ℕ) → ((h : Header) × IsAag limit text h) ⊎ ((line : ℕ) × (why : AagWhy) × IsFault limit text line why) }
     ensures not_both { (limit : ℕ) (text : List ℕ) (h : Header) (line : ℕ) (why : AagWhy) → IsAag limit text h → IsFault limit text line why → ⊥ }
@@ -18,13 +18,14 @@ pub fn law_of_form()
         IsFault limit text line why → IsFault limit text other because → (line ≡ other) × (why ≡ because) }
 {}
 
-/// The equations of a text of the form have one solution at all bits of its inputs.
+/// If a text has the form, its equations have one solution at all bits of its inputs.
 pub fn law_of_values()
     ensures { (limit : ℕ) (text : List ℕ) (h : Header) (bits : List Bool) → IsAag limit text h → HaveOneSolution h (line_at h (ended text)) bits }
 {}
 
-/// What was written has the form, without a fault, where the net has at most a million variables and gates and as many rules. The net
-/// that is read from it has the written truths: each output is 1 exactly where its gate is false.
+/// Written text has the form, without a fault, if the net has at most a million variables and gates together, and
+/// there are at most a million rules. The net that is read from it has the written truths: each output is 1 exactly
+/// if its gate is false.
 pub fn law_of_reading_back()
     ensures form { (net : Gates) (gates numbers text : List ℕ) (h : Header) → IsAagOf net gates numbers text h →
         net.vars + length net.gates ≤ 1000000 → length gates ≤ 1000000 → IsAag 1000000 text h }

@@ -1,4 +1,5 @@
-//! AIGER in ASCII, without latches: the rules of a datapath as a text for outside solvers, and such a text as a net.
+//! AIGER in ASCII, without latches: writes the rules of a datapath as a text for other solvers, and reads such a text
+//! as a net.
 #![tactic(auto)]
 
 mod build;

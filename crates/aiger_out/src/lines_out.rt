@@ -1,4 +1,4 @@
-//! The lines of a text that is written.
+//! Writes the lines of an AIGER text.
 ghost use Rattle.std.specs.Prelude.{◌≡◌, ◌+◌, ◌*◌, ◌^◌, ◌<◌, ◌∷◌, [], ◌++◌, OnOk, get_or, length};
 ghost use Rattle.y86_base.specs.Text.{with_line_feeds};
 ghost use Rattle.aiger_out.specs.Graphs.{and_at};
@@ -17,7 +17,7 @@ fn put_number(out: &mut Vec<u8>, n: u64) -> Result<(), Memory>
     put(out, Numeral::decimal(n).as_bytes())
 }
 
-/// Puts a number behind a blank.
+/// Puts a blank and a number.
 fn put_spaced(out: &mut Vec<u8>, n: u64) -> Result<(), Memory>
     ensures { OnOk result (out.new.items ≡ out.old.items ++ spec.spaced n) }
 {
@@ -113,7 +113,7 @@ fn and_at(ands: &[And], k: usize) -> And
     }
 }
 
-/// Puts the lines of the ANDs, whose variables stand behind the inputs.
+/// Puts the lines of the ANDs. Their variables follow those of the inputs.
 #[tactic(auto, using(crate::proofs::Each::each_none, crate::proofs::Each::each_more))]
 pub(crate) fn put_ands(out: &mut Vec<u8>, inputs: u32, ands: &[And]) -> Result<(), Memory>
     requires { 2 * (inputs + length ands.now) + 1 < 2 ^ 64 }

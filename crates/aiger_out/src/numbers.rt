@@ -8,7 +8,7 @@ ghost use Rattle.aiger_out.specs.Lines as spec;
 use crate::form::{AndLine, Header};
 use y86_base::{after_byte, is_decimal, number_in_base, split_decimal};
 
-/// How many bytes stand in front of the first line feed.
+/// The number of bytes before the first line feed.
 fn line_length(bytes: &[u8]) -> usize
     ensures place { result ≡ position_or_len is_line_feed bytes.now }
     ensures within { result ≤ length bytes.now }
@@ -16,7 +16,7 @@ fn line_length(bytes: &[u8]) -> usize
     bytes.iter().take_while(|byte| **byte != b'\n').count()
 }
 
-/// The first line, where a line feed ends it, and what stands behind it.
+/// The first line, if a line feed ends it, and the text after it.
 #[tactic(auto, using(crate::proofs::Ended::ended_first, crate::proofs::Ended::ended_none, crate::proofs::Ended::unended_first))]
 pub(crate) fn ended_line(text: &[u8]) -> Option<(&[u8], &[u8])>
     ensures lines { MatchOption result (spec.ended text.now ≡ []) (λ x. spec.ended text.now ≡ x.0.now ∷ spec.ended x.1.now) }
@@ -30,14 +30,14 @@ pub(crate) fn ended_line(text: &[u8]) -> Option<(&[u8], &[u8])>
     }
 }
 
-/// The number that digits write, or 2^64 - 1 for more.
+/// The number that digits write; 2^64 - 1 if it is larger.
 fn counted(digits: &[u8]) -> u64
     ensures { result ≡ spec.counted (digits_value 10 digits.now) }
 {
     number_in_base(10, digits).unwrap_or(u64::MAX)
 }
 
-/// A number in front, and what stands behind it.
+/// The number at the front, and the text after it.
 pub(crate) fn number_at(text: &[u8]) -> Option<(u64, &[u8])>
     ensures { MatchOption result (spec.number_at text.now ≡ None) (λ x. spec.number_at text.now ≡ Some (x.0, x.1.now)) }
 {
@@ -48,7 +48,7 @@ pub(crate) fn number_at(text: &[u8]) -> Option<(u64, &[u8])>
     Some((counted(digits), behind))
 }
 
-/// A number behind one blank, and what stands behind it.
+/// The number after one blank, and the text after it.
 fn number_behind(text: &[u8]) -> Option<(u64, &[u8])>
     ensures { MatchOption result (spec.number_behind text.now ≡ None) (λ x. spec.number_behind text.now ≡ Some (x.0, x.1.now)) }
 {
@@ -58,7 +58,7 @@ fn number_behind(text: &[u8]) -> Option<(u64, &[u8])>
     }
 }
 
-/// The number, where nothing stands behind it.
+/// The number, if nothing follows it.
 fn alone(n: u64, rest: &[u8]) -> Option<u64>
     ensures { result ≡ spec.alone (n, rest.now) }
 {
@@ -92,7 +92,7 @@ pub(crate) fn three_numbers(line: &[u8]) -> Option<AndLine>
     Some(AndLine { lhs, rhs0, rhs1 })
 }
 
-/// What stands behind `aag`.
+/// The text after `aag`.
 fn behind_aag(line: &[u8]) -> Option<&[u8]>
     ensures { MatchOption result (spec.behind_aag line.now ≡ None) (λ rest. spec.behind_aag line.now ≡ Some rest.now) }
 {

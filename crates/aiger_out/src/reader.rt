@@ -1,4 +1,4 @@
-//! An AIGER text as a net.
+//! Reads an AIGER text as a net.
 ghost use Rattle.std.specs.Prelude.{◌≡◌, ℕ, List, Bool, false, ◌+◌, ◌<◌, ◌≤◌, IfOk, MatchResult, length};
 ghost use Rattle.aiger_out.specs.declared.form.Header.{Header};
 ghost use Rattle.aiger_out.specs.declared.form.AagLine.TheVariants.{Input, Other};
@@ -47,7 +47,7 @@ fn build(alloc: Global, t: &Table) -> Result<Aig, Memory>
     })
 }
 
-/// The net of the lines before the symbols, where neither they nor those behind have a fault.
+/// The net of the lines before the symbols, if neither they nor the later lines have a fault.
 fn read_lines(alloc: Global, h: Header, rows: Vec<AagLine>, rest: &[u8]) -> Result<Aig, AagError>
     requires bounded { IsBounded h }
     requires size { length rows.items ≡ rest_from h }
@@ -81,8 +81,8 @@ fn header_error(why: AagWhy) -> AagError
     AagError::Fault(AagFault { line: 1, why })
 }
 
-/// Reads a text of at most a million variables and a million outputs. The text ends with its last line, of which a
-/// line feed stands behind each; behind the line `c` anything may stand.
+/// Reads a text with at most a million variables and a million outputs. A line feed ends each line, also the last one.
+/// Anything may follow the line `c`.
 pub fn read(alloc: Global, bytes: &[u8]) -> Result<Aig, AagError>
     ensures { MatchResult result (λ a. (h : Header) × IsNetOfText 1000000 bytes.now a.net a.outs h) (λ e. IsError 1000000 bytes.now e) }
 {

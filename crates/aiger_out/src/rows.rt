@@ -1,4 +1,4 @@
-//! The lines of a text up to its symbols, each read by what must stand at its place.
+//! The lines of a text up to its symbols, each read in the form that is required at its place.
 ghost use Rattle.std.specs.Prelude.{◌≡◌, ℕ, ◌+◌, ◌≤◌, IfOk, None, length, drop, slice_get, get_or};
 ghost use Rattle.std.specs.Option.{option_map_or};
 ghost use Rattle.aiger_out.specs.Form.{IsBounded, header_fault, line_at, line_read, rest_from};
@@ -29,7 +29,7 @@ pub(crate) fn header_fault(h: Header) -> Option<AagWhy>
     None
 }
 
-/// How many lines stand before the symbols.
+/// The number of lines before the symbols.
 pub(crate) fn rest_from(h: Header) -> u64
     requires { IsBounded h }
     ensures place { result ≡ rest_from h }
@@ -38,7 +38,7 @@ pub(crate) fn rest_from(h: Header) -> u64
     1 + h.inputs + h.outputs + h.ands
 }
 
-/// What a line says that stands at a place.
+/// The contents of a line at a place.
 fn line_read(h: Header, j: u64, line: &[u8]) -> AagLine
     requires { IsBounded h }
     ensures { result ≡ line_read h j line.now }
@@ -67,7 +67,7 @@ fn line_read(h: Header, j: u64, line: &[u8]) -> AagLine
     AagLine::Other
 }
 
-/// What the first line of a text says that stands at a place, and what stands behind it.
+/// The contents of the first line of a text, as the line at a place, and the text after it.
 fn next_line(h: Header, j: u64, text: &[u8]) -> (AagLine, &[u8])
     requires { IsBounded h }
     ensures line { result.0 ≡ option_map_or (line_read h j) (slice_get (ended text.now) 0) Other }
@@ -80,7 +80,7 @@ fn next_line(h: Header, j: u64, text: &[u8]) -> (AagLine, &[u8])
     }
 }
 
-/// The lines before the symbols, and what stands behind them. Where a text ends early, `Other` stands for the rest.
+/// The lines before the symbols, and the text after them. If a text ends early, the missing lines are `Other`.
 #[tactic(auto, using(crate::proofs::RowSteps::rows_none, crate::proofs::RowSteps::rows_more))]
 pub(crate) fn read_rows(
     alloc: Global,
@@ -102,7 +102,7 @@ pub(crate) fn read_rows(
     Ok((rows, rest))
 }
 
-/// The line at a place, and `Other` where there is none.
+/// The line at a place; `Other` if there is none.
 pub(crate) fn row_at(rows: &[AagLine], j: u64) -> AagLine
     ensures { result ≡ row rows.now j }
 {

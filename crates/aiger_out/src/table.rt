@@ -9,7 +9,7 @@ use crate::rows::row_at;
 use std::alloc::Global;
 use y86_base::Memory;
 
-/// The place for a variable that no line defines.
+/// The place that means: no line defines the variable.
 const NOWHERE: u64 = u64::MAX;
 
 /// The lines before the symbols by their places, and for each variable the place of the first line that defines it.
@@ -23,7 +23,7 @@ pub(crate) struct Table {
     ghost defined: { AreFirsts header (row rows.items) (length rows.items) firsts.items },
 }
 
-/// So many times the same number.
+/// A vector of `count` times the same number.
 pub(crate) fn filled(alloc: Global, count: usize, x: u64) -> Result<Vec<u64>, Memory>
     ensures { IfOk result (λ v. v.items ≡ replicate count x) }
 {
@@ -52,7 +52,7 @@ fn new_literal(line: AagLine) -> Option<u64>
     }
 }
 
-/// Keeps the place of a line as that of the variable that it defines, where none is kept.
+/// Records the place of a line for the variable that it defines, unless a place is recorded already.
 fn mark(firsts: &mut [u64], h: Header, line: AagLine, j: u64)
     requires bounded { spec.IsBounded h }
     requires size { length firsts.old ≡ h.most + 1 }
@@ -66,7 +66,7 @@ fn mark(firsts: &mut [u64], h: Header, line: AagLine, j: u64)
     }
 }
 
-/// Keeps the places of all lines behind the header.
+/// Records the places of all lines after the header.
 #[tactic(auto, using(crate::proofs::Firsts::firsts_more))]
 fn mark_all(firsts: &mut [u64], h: Header, rows: &[AagLine])
     requires bounded { spec.IsBounded h }
@@ -80,7 +80,7 @@ fn mark_all(firsts: &mut [u64], h: Header, rows: &[AagLine])
     }
 }
 
-/// The place of the first line that defines each variable; of the constant 0.
+/// The place of the first line that defines each variable; for the constant, place 0.
 #[tactic(auto, using(crate::proofs::Firsts::firsts_start, crate::proofs::Firsts::lent))]
 fn read_firsts(alloc: Global, h: Header, rows: &[AagLine]) -> Result<Vec<u64>, Memory>
     requires bounded { spec.IsBounded h }

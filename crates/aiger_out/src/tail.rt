@@ -9,7 +9,7 @@ use crate::form::Header;
 use crate::numbers::{ended_line, number_at};
 use y86_base::after_byte;
 
-/// A blank and a name of one byte at least.
+/// A blank, and a name of at least one byte.
 fn is_name(text: &[u8]) -> bool
     ensures { result ≡ spec.is_name (after_byte 32 text.now) }
 {
@@ -19,7 +19,7 @@ fn is_name(text: &[u8]) -> bool
     }
 }
 
-/// A letter, a number below how many there are, a blank and a name.
+/// A letter, a number below `count`, a blank and a name.
 fn names_one(line: &[u8], letter: u8, count: u64) -> bool
     ensures { result ≡ spec.symbol_behind count (after_byte letter line.now) }
 {
@@ -39,14 +39,14 @@ fn is_symbol(h: Header, line: &[u8]) -> bool
     names_one(line, b'i', h.inputs) || names_one(line, b'o', h.outputs)
 }
 
-/// The line behind which anything may stand.
+/// The line `c`, which anything may follow.
 fn is_comment(line: &[u8]) -> bool
     ensures { result ≡ spec.is_comment line.now }
 {
     line == b"c".as_slice()
 }
 
-/// How many lines stand before the one that is neither a symbol nor the comment's, if there is such a line.
+/// The number of lines before the first one that is neither a symbol nor the line `c`, if there is such a line.
 #[tactic(auto, using(crate::proofs::Tails::read_none, crate::proofs::Tails::read_more, crate::proofs::Tails::read_comment, crate::proofs::Tails::read_bad, crate::proofs::Tails::read_end, crate::proofs::Tails::read_rest, crate::proofs::Tails::read_all))]
 pub(crate) fn tail_fault(h: Header, text: &[u8]) -> Option<usize>
     ensures fault { MatchOption result (IsTail h (ended text.now) (spec.has_more text.now)) (λ k. IsTailFault h (ended text.now) (spec.has_more text.now) k) }

@@ -1,4 +1,4 @@
-//! The rules of a datapath as an AIGER text.
+//! Writes the rules of a datapath as an AIGER text.
 ghost use Rattle.std.specs.Prelude.{◌≡◌, ◌++◌, IfOk, get_or, length};
 ghost use Rattle.y86_base.specs.Text.{with_line_feeds};
 ghost use Rattle.aiger_out.specs.declared.form.Header.{Header};
@@ -49,7 +49,7 @@ fn output_literals(alloc: Global, rules: &[Rule], literals: &[u64]) -> Result<Ve
     Ok(outs)
 }
 
-/// The header; the answer is out of memory where a literal would not be a word, since such a text can't be held.
+/// The header; out of memory if a literal wouldn't fit in a word, because such a text wouldn't fit in memory.
 fn header_for(inputs: u32, outputs: usize, ands: usize) -> Result<Header, Memory>
     ensures { IfOk result (λ h. IsHeaderOf h inputs outputs ands) }
 {
@@ -90,7 +90,7 @@ fn put_lines(
     Ok(h)
 }
 
-/// Writes rules over a net, by its graph.
+/// Writes rules over a net, from the net's graph.
 fn write_rules(
     alloc: Global,
     net: &Net,
@@ -107,7 +107,7 @@ fn write_rules(
     Ok(text)
 }
 
-/// Writes the rules: an input for each variable, and for each rule an output that is 1 where it isn't met. All
+/// Writes the rules: an input for each variable, and for each rule an output that is 1 if the rule isn't met. All
 /// conjunctions of the net are written, also those that no rule reads.
 pub fn write(alloc: Global, r: &Rules) -> Result<Vec<u8>, Memory>
     ensures { IfOk result (λ text. (h : Header) × IsAagOf r.now.net (gates_of r.now.list) (numbers_of r.now.list) text.items h) }

@@ -38,7 +38,7 @@ same_count f g zero e = refl
 same_count f g (suc n) e =
     ap (λ (m : ℕ). m + (if f n then 1 else 0)) (same_count f g n (λ p l. e p (omega (arith, l)))) ∙ ap (λ (b : Bool). count_below g n + (if b then 1 else 0)) (e n (omega arith))
 
--- the place of a gate's vector is its truth at the valuation in that place
+-- the bit in a place of a gate's vector is its truth at the valuation in that place
 place_is : (net : Gates) (lanes scratch : List (List ℕ)) (g p : ℕ) → g < length scratch → across p scratch ≡ truths net (across p lanes)
     → lane_bit p (get_or scratch g []) ≡ truth net g (across p lanes)
 unfolding truth

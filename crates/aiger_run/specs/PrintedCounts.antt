@@ -1,4 +1,4 @@
--- What is told of a text: how often each output is 1.
+-- What is printed about a text: how often each output is 1.
 use Rattle.std.specs.Prelude.{◌≡◌, ℕ, ◌<◌, Bool, List, ◌∷◌, ◌++◌, length, get_or}
 use Rattle.y86_base.specs.Text.{with_line_feeds}
 use Rattle.aiger_out.specs.declared.form.Header.{Header}
@@ -15,7 +15,7 @@ count_line i n = 111 ∷ (decimal i ++ (32 ∷ decimal n))
 abbrev pub counts_text : List ℕ → List ℕ
 counts_text counts = with_line_feeds (each (λ i. count_line i (get_or counts i 0)) (length counts))
 
--- output i is 1 at so many of the vectors 0 to 511
+-- output i is 1 at n of the vectors 0 to 511
 pub record IsCount (h : Header) (text : List ℕ) (seed i n : ℕ) : Type 0 where
   pub value : ℕ → Bool
   pub outs : (p : ℕ) → p < 512 → Out h text i (vector seed p h.inputs) (value p)

@@ -1,4 +1,4 @@
-//! At how many vectors an output is 1.
+//! Counts the vectors at which an output is 1.
 ghost use Rattle.std.specs.Prelude.{◌≡◌, ◌<◌, ◌≤◌, ◌+◌, ℕ, [], IfOk, get_or, length};
 ghost use Rattle.aiger_run.specs.Counts.{AreCounted, AreCounts, AreCountsAt, count_below};
 ghost use Rattle.lane_eval.specs.Lanes.{bit_test, lane_bit};
@@ -57,7 +57,7 @@ fn count_gates(alloc: Global, s: &Scratch, gates: &[u64]) -> Result<Vec<u64>, Me
     Ok(counts)
 }
 
-/// The counts of all outputs at vectors that stand in lanes. All gates are evaluated once, for all outputs.
+/// The counts of all outputs at the vectors in `lanes`. All gates are evaluated once, for all outputs.
 fn count_all(alloc: Global, aig: &Aig, lanes: &[u64x8], s: &mut Scratch) -> Result<Vec<u64>, Memory>
     requires has_truth { length s.old ≡ length aig.now.net.gates }
     requires variables { length lanes.now ≡ aig.now.net.vars }

@@ -9,7 +9,7 @@ use std::alloc::Global;
 use std::simd::u64x8;
 use y86_base::Memory;
 
-/// Input `k` of vector `i`; one from the tenth on takes a draw.
+/// Input `k` of vector `i`. From the tenth on, each input takes a draw.
 #[tactic(auto, using(crate::proofs::Vectors::drawn_none, crate::proofs::Vectors::drawn_more))]
 fn next_input(i: u64, k: usize, draws: &mut Draws) -> bool
     requires { i < 512 }
@@ -35,7 +35,7 @@ fn put_vector(seed: u64, i: u64, bits: &mut [bool])
     }
 }
 
-/// Puts 512 vectors, each into its place.
+/// Puts 512 vectors, each in its place.
 fn put_vectors(seed: u64, bits: &mut [bool], lanes: &mut [u64x8])
     requires { length bits.old ≡ length lanes.old }
     ensures { (p : ℕ) → p < 512 → across p lanes.new ≡ vector seed p (length lanes.old) }
@@ -46,7 +46,7 @@ fn put_vectors(seed: u64, bits: &mut [bool], lanes: &mut [u64x8])
     }
 }
 
-/// So many copies.
+/// A vector of `n` copies.
 fn copies<T: Copy>(alloc: Global, x: T, n: u32) -> Result<Vec<T>, Memory>
     ensures { IfOk result (λ v. length v.items ≡ n) }
 {
@@ -59,7 +59,7 @@ fn copies<T: Copy>(alloc: Global, x: T, n: u32) -> Result<Vec<T>, Memory>
     Ok(v)
 }
 
-/// The vectors 0 to 511 of so many inputs.
+/// The vectors 0 to 511, each with `inputs` inputs.
 pub(crate) fn vectors(alloc: Global, seed: u64, inputs: u32) -> Result<Vec<u64x8>, Memory>
     ensures size { IfOk result (λ lanes. length lanes.items ≡ inputs) }
     ensures places { IfOk result (λ lanes. (p : ℕ) → p < 512 → across p lanes.items ≡ vector seed p inputs) }

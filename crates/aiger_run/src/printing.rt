@@ -1,4 +1,4 @@
-//! The counts of the outputs of a text, as a text.
+//! Prints the counts of the outputs of an AIGER text.
 ghost use Rattle.std.specs.Prelude.{◌≡◌, ◌<◌, ◌++◌, ◌∷◌, [], ℕ, IfOk, MatchResult, OnOk, get_or, length};
 ghost use Rattle.aiger_out.specs.Reading.{IsError};
 ghost use Rattle.aiger_out.specs.Written.{decimal, each};
@@ -39,7 +39,7 @@ fn put_counts(out: &mut Vec<u8>, counts: &[u64]) -> Result<(), Memory>
     Ok(())
 }
 
-/// Reads a text, and tells at how many of the vectors 0 to 511 of a seed each output is 1.
+/// Reads a text, and prints at how many of the vectors 0 to 511 of a seed each output is 1.
 #[tactic(auto, using(crate::proofs::Told::tells_counts))]
 pub fn count_outputs(alloc: Global, bytes: &[u8], seed: u64) -> Result<Vec<u8>, AagError>
     ensures { MatchResult result (λ text. PrintsCounts bytes.now seed text.items) (λ e. IsError 1000000 bytes.now e) }

@@ -19,12 +19,12 @@ words_push (m ∷ ns) n h small = (h.0, words_push ns n h.1 small)
 pub words_more : (ns : List ℕ) (i n : ℕ) → i < length ns → AreWords (take i ns) → n < 2 ^ 64 → AreWords (take (i + 1) (set ns i n))
 words_more ns i n within h small = subst AreWords (sym (take_more_set ns i n within)) (words_push (take i ns) n h small)
 
--- behind a number stands no digit
+-- no digit follows a number
 pub stops : (ns t : List ℕ) → begins is_decimal (numbers_text ns ++ t) ≡ false
 stops [] t = refl
 stops (n ∷ ns) t = refl
 
--- the next number, with the blank in front of it
+-- the next number, with the blank before it
 pub next_is : (ns t rest : List ℕ) (i : ℕ) → i < length ns → rest ≡ numbers_text (drop i ns) ++ t →
     rest ≡ 32 ∷ (decimal (get_or ns i 0) ++ (numbers_text (drop (i + 1) ns) ++ t))
 next_is ns t rest i within e =
@@ -34,11 +34,11 @@ next_is ns t rest i within e =
 pub no_blank : (rest xs : List ℕ) → None ≡ after_byte 32 rest → rest ≡ 32 ∷ xs → ⊥
 no_blank rest xs none e = none-some xs (none ∙ ap (after_byte 32) e)
 
--- what stands behind the blank is read as the number
+-- the bytes after the blank are read as the number
 pub behind_blank : (rest behind xs : List ℕ) → Some behind ≡ after_byte 32 rest → rest ≡ 32 ∷ xs → behind ≡ xs
 behind_blank rest behind xs some e = same_Some behind xs (some ∙ ap (after_byte 32) e)
 
--- one number more in front
+-- one more number is found
 pub found_more : (bytes rest behind tail : List ℕ) (numbers : List ℕ) (i n : ℕ) → i < length numbers → rest ≡ 32 ∷ behind → behind ≡ decimal n ++ tail →
     ((more t : List ℕ) → rest ≡ numbers_text more ++ t → bytes ≡ numbers_text (take i numbers ++ more) ++ t) →
     (more t : List ℕ) → tail ≡ numbers_text more ++ t → bytes ≡ numbers_text (take (i + 1) (set numbers i n) ++ more) ++ t
@@ -49,7 +49,7 @@ found_more bytes rest behind tail numbers i n within blank number found more t e
     sym (append_assoc (take i numbers) (n ∷ []) more) ∙ ap (λ (xs : List ℕ). xs ++ more) (sym (take_more_set numbers i n within)) in
     found (n ∷ more) t whole ∙ ap (λ (xs : List ℕ). numbers_text xs ++ t) front
 
--- the whole, where the end of the line stands behind the last number
+-- the whole line, if its end follows the last number
 pub found_all : (bytes rest behind : List ℕ) (numbers : List ℕ) (i : ℕ) → rest ≡ 10 ∷ behind →
     ((more t : List ℕ) → rest ≡ numbers_text more ++ t → bytes ≡ numbers_text (take i numbers ++ more) ++ t) → bytes ≡ numbers_text (take i numbers) ++ behind
 found_all bytes rest behind numbers i end found =

@@ -1,4 +1,4 @@
--- A text that goes on with right lines, one more of them, and its end.
+-- A text that continues with right lines: one more of them, and its end.
 use Rattle.std.proofs.Common.{◌≡◌, ◌≢◌, ◌⊎◌, ℕ, ◌+◌, ◌-◌, ◌*◌, ◌<◌, ◌≤◌, Bool, true, false, not, cond, List, [], ◌∷◌, ◌++◌, length, take, drop, slice_get, Some, None, refl, sym, ap, ◌∙◌, subst, inl, inr, ⊎_elim, append_assoc, length-append, arith}
 use Rattle.std.proofs.lemmas.List.{append-nil, length-drop, take-append-le, take_all, take_rest, length_push}
 use Rattle.std.proofs.lemmas.Option.{none-some, same_Some, slice_get_within}
@@ -17,7 +17,7 @@ use Rattle.cert_checker.specs.Certificates.{AreRight, AreSeven, BeginsWith, HasR
 use Rattle.cert_checker.proofs.Sound.{facts_push, pushed}
 use Rattle.cert_checker.proofs.Lines.{line_begins}
 
--- where the checker is: behind some right lines, of which it knows what they have made
+-- the checker's position: after some right lines, with the facts that they make
 pub record IsAt (g : Demands) (text : List ℕ) (known : CheckerFacts) (rest : List ℕ) (line : ℕ) : Type 0 where
   pub lines : List CertLine
   pub goes_on : HasRightLines g text lines rest
@@ -44,7 +44,7 @@ right_push net lines line right one k x is = ⊎_elim old new (pushed lines line
         let front : take k (lines ++ line ∷ []) ≡ lines = take-append-le k lines (line ∷ []) h ∙ take_all k lines (let a = e.0 in omega arith) in
         (λ i. flaw net (facts_of (front i)) (e.1 i)) ∙ one
 
--- one right line more
+-- one more right line
 pub goes_further : (g : Demands) (text : List ℕ) (lines : List CertLine) (rest behind : List ℕ) (line : CertLine) → HasRightLines g text lines rest → IsLine line →
     flaw g.net (facts_of lines) line ≡ None → rest ≡ line_text line ++ behind → HasRightLines g text (lines ++ line ∷ []) behind
 goes_further g text lines rest behind line o is one whole = record {
@@ -74,7 +74,7 @@ some_bytes (NotCases a c v p q) = two_bytes a (c ∷ v ∷ p ∷ q ∷ [])
 some_bytes (Gate t) = two_bytes t []
 some_bytes (GateBy t p) = two_bytes t (p ∷ [])
 
--- a line has some bytes
+-- a line has at least three bytes
 pub line_length : (line : CertLine) (rest behind : List ℕ) → rest ≡ line_text line ++ behind → length behind + 3 ≤ length rest
 line_length line rest behind e =
     omega (arith, ap length (line_begins rest behind line e), length-append (numbers_text (numbers_of line)) behind, some_bytes line)
@@ -115,7 +115,7 @@ at_first g text settings states same long =
 pub states_others : (g : Demands) (text : List ℕ) (settings : Settings) (rest : List ℕ) → StatesSettings text settings rest → settings ≢ g.settings → IsRefusal g text (syntax_at 2)
 states_others g text settings rest states others = inr (inl (record { is = refl; settings = settings; rest = rest; states = states; others = others }))
 
--- what is wrong with a line is its numbers, its claim or its gate
+-- the error in a line is in its numbers, its claim or its gate
 of_three : (a b c : Bool) (w : CertWhy) → cond (not a) (Some why.Number) (cond (not b) (Some why.Claim) (cond (not c) (Some why.Gate) None)) ≡ Some w →
     (w ≡ why.Number) ⊎ ((w ≡ why.Claim) ⊎ (w ≡ why.Gate))
 of_three true true true w e = absurd (none-some w e)

@@ -1,4 +1,4 @@
--- The first two lines: what they state is read by the places of the digits.
+-- The first two lines: the settings that they state are read from the places of the digits.
 use Rattle.std.proofs.Common.{◌≡◌, ℕ, ◌-◌, ◌≤◌, Bool, true, false, cond, eqb, List, [], ◌∷◌, ◌++◌, length, take, drop, refl, sym, ap, ◌∙◌, subst, inr, append_assoc, length-append, arith}
 use Rattle.std.proofs.lemmas.Bool.{and_parts, and_from, eqb-true, eq-eqb, false≢true}
 use Rattle.std.proofs.lemmas.List.{take_at, take-append-drop, drop-drop, take_rest}
@@ -33,7 +33,7 @@ begins_false xs needle rest e whole =
     let front : take (length needle) xs ≡ needle = ap (take (length needle)) whole ∙ take_at needle rest (length needle) refl in
     false≢true (sym e ∙ ap (pointwise nat_eq needle) front ∙ points_same needle)
 
--- ---- the yes
+-- ---- the `yes`
 
 digit_is : (b : Bool) → digit b ≡ cond b 49 48 ∷ []
 digit_is true = refl

@@ -99,7 +99,7 @@ pub line_begins : (bytes rest : List ℕ) (line : CertLine) → bytes ≡ line_t
 unfolding line_text
 line_begins bytes rest line e = e
 
--- the kind of the letter in front is that of the line
+-- the first letter is that of the line's kind
 pub kind_only : (bytes behind rest : List ℕ) (l : ℕ) (k : LineKind) (line : CertLine) → letter k ≡ l → bytes ≡ l ∷ behind → bytes ≡ line_text line ++ rest →
     (k ≡ kind_of line) × (behind ≡ numbers_text (numbers_of line) ++ rest)
 kind_only bytes behind rest l k line is first e =
@@ -110,7 +110,7 @@ kind_only bytes behind rest l k line is first e =
 pub no_line : (bytes rest : List ℕ) (line : CertLine) → length bytes ≡ 0 → bytes ≡ line_text line ++ rest → ⊥
 no_line bytes rest line none e = omega (arith, none, ap length (line_begins bytes rest line e))
 
--- no kind has the letter in front
+-- no line begins with a letter that no kind has
 pub letter_only : (bytes behind rest : List ℕ) (l : ℕ) (line : CertLine) → ((k : LineKind) → letter k ≡ l → ⊥) → bytes ≡ l ∷ behind → bytes ≡ line_text line ++ rest → ⊥
 letter_only bytes behind rest l line none first e =
     none (kind_of line) (ap (λ (xs : List ℕ). get_or xs 0 0) (sym (line_begins bytes rest line e) ∙ first))
@@ -119,7 +119,7 @@ pub line_only : (k : LineKind) (n : List ℕ) (line : CertLine) → k ≡ kind_o
 line_only k n line same e =
     ap (λ (j : LineKind). line_with j n) same ∙ with_numbers line n (ap (λ (j : LineKind). take (count j) n) (sym same) ∙ e)
 
--- a text that isn't empty is its first byte and what stands behind it
+-- a text that isn't empty is its first byte, followed by the rest
 pub first_byte : (bytes : List ℕ) → eqb (length bytes) 0 ≡ false → bytes ≡ get_or bytes 0 0 ∷ take (length bytes - 1) (drop 1 bytes)
 first_byte [] e = absurd (false≢true (sym e))
 first_byte (b ∷ bytes) e = ap (λ (xs : List ℕ). b ∷ xs) (sym (take_rest (b ∷ bytes) 1))

@@ -1,4 +1,4 @@
--- A certificate is right of every pattern of bits: each claim holds, and each gate has the value of its term.
+-- A certificate is right at every pattern of bits: each claim holds, and each gate has the value of its term.
 use Rattle.std.proofs.Common.{◌≡◌, ◌⊎◌, inl, inr, ⊎_elim, ℕ, zero, suc, ◌+◌, ◌-◌, ◌<◌, ◌≤◌, Bool, true, false, not, ◌&&◌, cond, eqb, ltb, List, [], ◌∷◌, ◌++◌, length, take, map, get_or, slice_get, Option, Some, None, refl, sym, ap, ◌∙◌, subst, arith}
 use Rattle.std.proofs.lemmas.Bool.{and_parts, or_cases, eqb-true, ltb-true, ltb-false, false≢true}
 use Rattle.std.proofs.lemmas.List.{length_push, map_push, take_more, take_all, get_or-map}
@@ -28,7 +28,7 @@ chosen true true false e = absurd (cc)
 chosen true false c e = absurd (cc)
 chosen false b c e = absurd (cc)
 
--- a line without a flaw names what is there, is justified and fits
+-- a line without a flaw names what exists, is justified and fits
 pub right_line : (net : Gates) (k : CheckerFacts) (line : CertLine) → flaw net k line ≡ None →
     (names net.vars k line ≡ true) × (is_justified k line ≡ true) × (gate_matches net k line ≡ true)
 unfolding flaw
@@ -83,7 +83,7 @@ part_value terms made v b t w e = at (ltb t 2) refl
     at true small = refl
     at false small = part_made terms made t v b w e (ltb-false t 2 small) (slice_get terms (t - 2)) refl
 
--- ---- what holds of what lines have made
+-- ---- what holds for the facts that lines make
 
 abbrev ClaimIn : ℕ → Claim → Type 0
 ClaimIn n (claim.And a b c) = (a < n) × (b < n) × (c < n)
@@ -170,7 +170,7 @@ sound_gate net k t g s inside is holds =
           ∙ ap (λ (n : ℕ). values w [] (take n net.gates)) (sym size);
     }
 
--- ---- what the rule asks is right
+-- ---- the rule's tests are sound
 
 plain_and : (terms : List TermDef) (w : List Bool) (a b c : ℕ) → is_plain_and a b c ≡ true → cert_value terms c w ≡ cert_value terms a w && cert_value terms b w
 plain_and terms w a b c e =
@@ -236,7 +236,7 @@ plain_not terms w a c e = ⊎_elim (λ h. zero_one h) (λ h. one_zero h) (or_cas
         rw (eqb-true a 1 p.0, eqb-true c 0 p.1, value_zero terms w, value_one terms w) refl
 
 module _ (net : Gates) (k : CheckerFacts) (s : IsSound net k) (w : List Bool) where
-  -- a claim on the parts of terms where a variable has its value is one on the terms
+  -- a claim about the parts of terms at a variable's value holds for the terms
   and_whole : (v a b c : ℕ) (x : Bool) → get_or w v false ≡ x → ClaimHolds k.terms w (claim.And (part k.terms v x a) (part k.terms v x b) (part k.terms v x c)) → ClaimHolds k.terms w (claim.And a b c)
   and_whole v a b c x e h =
       sym (part_value k.terms s.made v x c w e) ∙ h

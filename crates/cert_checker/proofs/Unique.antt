@@ -1,4 +1,4 @@
--- A text has one first fault at most.
+-- A text has at most one first fault.
 use Rattle.std.proofs.Common.{◌≡◌, ◌≢◌, ◌⊎◌, inl, inr, ⊎_elim, ℕ, suc, ◌+◌, ◌<◌, ◌≤◌, Bool, true, false, not, cond, List, [], ◌∷◌, ◌++◌, length, take, drop, get_or, slice_get, Some, None, refl, sym, ap, ◌∙◌, subst, append_assoc, length-append, arith}
 use Rattle.std.proofs.lemmas.List.{append-nil, append_cancel_left, take_all, take_at}
 use Rattle.std.proofs.lemmas.Option.{none-some, same_Some}
@@ -23,7 +23,7 @@ use Rattle.cert_checker.proofs.Fields.{stops as no_digit}
 use Rattle.cert_checker.proofs.Heads.{yes_read}
 use Rattle.cert_checker.proofs.Lines.{count_is, kind_only, letter_only, line_begins, line_only, no_letter}
 
--- ---- the one line in front of a text
+-- ---- a text begins with at most one line
 
 numbers_one : (ns ms x y : List ℕ) → AreWords ns → AreWords ms → numbers_text ns ++ x ≡ numbers_text ms ++ y → (ns ≡ ms) × (x ≡ y)
 numbers_one [] [] x y v w e = (refl, ap (drop 1) e)
@@ -52,7 +52,7 @@ one_line a b x y v w e =
 begins_one : (text : List ℕ) (a b : CertLine) → BeginsWith text a → BeginsWith text b → a ≡ b
 begins_one text a b p q = (one_line a b p.rest q.rest p.is q.is (sym p.whole ∙ q.whole)).0
 
--- the last line is no line
+-- the last line has none of the kinds of lines
 not_last : (text more : List ℕ) (line : CertLine) → text ≡ last_line ++ more → BeginsWith text line → ⊥
 not_last text more line e b = letter_only text (drop 1 text) b.rest 101 line (no_letter 101 (λ f. omega (arith, f)) (λ f. omega (arith, f)) (λ f. omega (arith, f)) (λ f. omega (arith, f)) (λ f. omega (arith, f)) (λ f. omega (arith, f)) (λ f. omega (arith, f)))
     (e ∙ ap (λ (xs : List ℕ). 101 ∷ drop 1 xs) (sym e)) b.whole
@@ -82,7 +82,7 @@ compare_lines (l ∷ a) (m ∷ b) x y p q e =
         more (left_short line rest g i) = left_short line rest (λ j. sym f j ∷ g j) i
         more (right_short line rest g i) = right_short line rest (λ j. f j ∷ g j) i
 
--- a text goes on with one right line more
+-- a text continues with one more right line
 Continues : Demands → List CertLine → List ℕ → Type 0
 Continues g lines rest = (line : CertLine) × BeginsWith rest line × (flaw g.net (facts_of lines) line ≡ None)
 
@@ -98,7 +98,7 @@ continues g a b x y line more right lines e f =
     here [] = refl
     here (l ∷ a) = here a
 
--- where no line continues either of two texts, both have the same lines
+-- if no further line is right after either of two lists of lines of a text, both are the same
 same_lines : (g : Demands) (text : List ℕ) (a b : List CertLine) (x y : List ℕ) → HasRightLines g text a x → HasRightLines g text b y → (Continues g a x → ⊥) → (Continues g b y → ⊥) → (a ≡ b) × (x ≡ y)
 same_lines g text a b x y p q no_more none =
     by (compare_lines a b x y p.each q.each (append_cancel_left (head_text g.settings) (lines_text a ++ x) (lines_text b ++ y) (sym p.whole ∙ q.whole)))
@@ -110,7 +110,7 @@ same_lines g text a b x y p q no_more none =
 
 -- ---- where lines end
 
--- what a fault behind right lines is: no line and no end; a wrong line; too early an end; an end with an open demand
+-- the faults after right lines: no line and no end; a wrong line; too early an end; an end with an open demand
 data Case (g : Demands) (lines : List CertLine) (rest : List ℕ) (w : CertWhy) : Type 0 where
   none : w ≡ why.Syntax → ((line : CertLine) → BeginsWith rest line → ⊥) → ((more : List ℕ) → rest ≡ last_line ++ more → ⊥) → Case g lines rest w
   wrong : (line : CertLine) → BeginsWith rest line → flaw g.net (facts_of lines) line ≡ Some w → Case g lines rest w
@@ -205,7 +205,7 @@ no_head_one text a b p q = same_fault a b (by p.line q.line) (p.why ∙ sym q.wh
 -- ---- all together
 
 module _ (g : Demands) (text : List ℕ) where
-  -- a text that goes on states the demands' settings
+  -- a text that continues with right lines states the demands' settings
   not_headless : (fault : CertFault) (lines : List CertLine) (rest : List ℕ) → HasRightLines g text lines rest → HasNoHead text fault → ⊥
   not_headless fault lines rest o h = headed text (lines_text lines ++ rest) g.settings fault o.seven o.whole h
 
@@ -296,7 +296,7 @@ gate_only : (f : Bool) (w : CertWhy) → cond (not f) (Some why.Gate) None ≡ S
 gate_only true w e = absurd (none-some w e)
 gate_only false w e = sym (same_Some why.Gate w e)
 
--- a line that is right over one net is wrong over another with as many variables only by its gate
+-- a line that is right for one net is wrong for another with as many variables only because of its gate
 wrong_gate : (g h : Gates) (k : CheckerFacts) (line : CertLine) (w : CertWhy) → g.vars ≡ h.vars → flaw g k line ≡ None → flaw h k line ≡ Some w → w ≡ why.Gate
 unfolding flaw
 wrong_gate g h k line w vars one fails =
@@ -314,14 +314,14 @@ module _ (g h : Demands) (text : List ℕ) (settings : g.settings ≡ h.settings
       (append_cancel_left (head_text g.settings) (lines_text c.lines ++ last_line) (lines_text lines ++ rest)
       (sym c.goes_on.whole ∙ o.whole ∙ ap (λ (s : Settings). head_text s ++ (lines_text lines ++ rest)) (sym settings)))
 
-  -- where the lines over the other net are all there are
+  -- if the lines for the other net are all lines
   same_end : (rest : List ℕ) (lines : List CertLine) (w : CertWhy) → last_line ≡ rest → Case h lines rest w → IsOfGates w
   same_end rest lines w e (none f no_line no_end) = absurd (no_end [] (sym e ∙ sym (append-nil last_line)))
   same_end rest lines w e (wrong line begins f) = absurd (not_last rest [] line (sym e ∙ sym (append-nil last_line)) begins)
   same_end rest lines w e (early more f end apart) = subst IsOfGates (sym f) tt
   same_end rest lines w e (unmet more k v f end all is open_is) = subst IsOfGates (sym f) tt
 
-  -- where a line more is right over the first net
+  -- if one more line is right for the first net
   one_more : (rest : List ℕ) (lines : List CertLine) (w : CertWhy) (line : CertLine) → BeginsWith rest line → flaw g.net (facts_of lines) line ≡ None → Case h lines rest w → IsOfGates w
   one_more rest lines w line begins right (none f no_line no_end) = absurd (no_line line begins)
   one_more rest lines w line begins right (wrong other too f) =
@@ -331,7 +331,7 @@ module _ (g h : Demands) (text : List ℕ) (settings : g.settings ≡ h.settings
   one_more rest lines w line begins right (early more f end apart) = absurd (not_last rest more line end begins)
   one_more rest lines w line begins right (unmet more k v f end all is open_is) = absurd (not_last rest more line end begins)
 
-  -- the lines over the other net can't be more
+  -- there can't be more lines for the other net
   no_more : (lines : List CertLine) (rest : List ℕ) (line : CertLine) (more : List CertLine) → HasRightLines h text lines rest → lines ≡ c.lines ++ line ∷ more →
       last_line ≡ line_text line ++ (lines_text more ++ rest) → ⊥
   unfolding Continues
@@ -339,7 +339,7 @@ module _ (g h : Demands) (text : List ℕ) (settings : g.settings ≡ h.settings
       let k = continues h c.lines lines last_line rest line more o.right o.each e f in
       end_alone k.0 k.1
 
-  -- where they are fewer, the next one is right over the first net
+  -- if there are fewer, the next one is right for the first net
   next_right : (lines : List CertLine) (rest : List ℕ) (line : CertLine) (more : List CertLine) → c.lines ≡ lines ++ line ∷ more → rest ≡ line_text line ++ (lines_text more ++ last_line) →
       (l : CertLine) × BeginsWith rest l × (flaw g.net (facts_of lines) l ≡ None)
   unfolding Continues

@@ -14,7 +14,7 @@ use Rattle.cert_checker.specs.CheckerFacts.{facts_of}
 use Rattle.cert_checker.specs.Lines.{IsLine, line_text, lines_text}
 use Rattle.cert_checker.specs.Rules.{flaw}
 
--- ---- the head: the first line, and a yes of the pipeline's check
+-- ---- the head: the first line, and the `yes` of PIPE's check
 
 abbrev pub first_line : List ℕ
 first_line = codes "y86cert 1\n"
@@ -29,12 +29,12 @@ AreSeven s = (length s.pt ≡ 7) × (length s.pb ≡ 7)
 unfoldable pub head_text : Settings → List ℕ
 head_text s = first_line ++ pipe_yes s
 
--- the text states these settings, and this stands behind them
+-- the text states these settings, followed by the rest
 pub record StatesSettings (text : List ℕ) (s : Settings) (rest : List ℕ) : Type 0 where
   pub seven : AreSeven s
   pub whole : text ≡ head_text s ++ rest
 
--- the settings that a yes states, by the places of its digits
+-- the settings that a `yes` states, read from the places of its digits
 abbrev pub is_set : List ℕ → ℕ → Bool
 is_set text i = get_or text i 0 == 49
 
@@ -48,7 +48,7 @@ settings_at t = record {
   rm = is_set t 44;
 }
 
--- the text states no settings: its first or its second line isn't of its form
+-- the text states no settings: its first or its second line is malformed
 pub record HasNoHead (text : List ℕ) (fault : CertFault) : Type 0 where
   pub why : fault.why ≡ why.Syntax
   pub line : ((fault.line ≡ 1) × ((rest : List ℕ) → text ≡ first_line ++ rest → ⊥))
@@ -61,14 +61,14 @@ pub record HasNoHead (text : List ℕ) (fault : CertFault) : Type 0 where
 abbrev pub AreRight : Gates → List CertLine → Type 0
 AreRight net lines = (k : ℕ) (line : CertLine) → slice_get lines k ≡ Some line → flaw net (facts_of (take k lines)) line ≡ None
 
--- a text that states the demands' settings and goes on with these lines, all of them right
+-- a text that states the demands' settings and continues with these lines, all of them right
 pub record HasRightLines (g : Demands) (text : List ℕ) (lines : List CertLine) (rest : List ℕ) : Type 0 where
   pub seven : AreSeven g.settings
   pub each : (k : ℕ) (line : CertLine) → slice_get lines k ≡ Some line → IsLine line
   pub right : AreRight g.net lines
   pub whole : text ≡ head_text g.settings ++ (lines_text lines ++ rest)
 
--- each gate of the net has its line, and each demanded gate has the term of truth
+-- each gate of the net has its line, and each demanded gate has term 1, truth
 pub record IsFinished (g : Demands) (lines : List CertLine) : Type 0 where
   pub all : length (facts_of lines).gates ≡ length g.net.gates
   pub demanded : (k w : ℕ) → slice_get g.want k ≡ Some w → slice_get (facts_of lines).gates w ≡ Some 1
@@ -87,7 +87,7 @@ pub record BeginsWith (text : List ℕ) (line : CertLine) : Type 0 where
   pub is : IsLine line
   pub whole : text ≡ line_text line ++ rest
 
--- what is wrong where right lines end
+-- the error that follows right lines
 abbrev pub IsEndFault : Demands → List CertLine → List ℕ → CertWhy → Type 0
 IsEndFault g lines rest why.Syntax = ((line : CertLine) → BeginsWith rest line → ⊥) × ((more : List ℕ) → rest ≡ last_line ++ more → ⊥)
 IsEndFault g lines rest why.Number = (line : CertLine) × BeginsWith rest line × (flaw g.net (facts_of lines) line ≡ Some why.Number)
@@ -106,7 +106,7 @@ pub record StatesOtherSettings (g : Demands) (text : List ℕ) (fault : CertFaul
   pub states : StatesSettings text settings rest
   pub others : settings ≢ g.settings
 
--- behind some right lines another line is wrong
+-- after some right lines another line is wrong
 pub record IsLineFault (g : Demands) (text : List ℕ) (fault : CertFault) : Type 0 where
   pub lines : List CertLine
   pub rest : List ℕ
@@ -114,7 +114,7 @@ pub record IsLineFault (g : Demands) (text : List ℕ) (fault : CertFault) : Typ
   pub stops : IsEndFault g lines rest fault.why
   pub line : fault.line ≡ length lines + 3
 
--- a text goes on behind a right end
+-- a text continues after a right end
 pub record HasTextAfterEnd (g : Demands) (text : List ℕ) (fault : CertFault) : Type 0 where
   pub lines : List CertLine
   pub more : List ℕ

@@ -20,7 +20,7 @@ with_claim k c = record { terms = k.terms; claims = k.claims ++ c ∷ []; gates 
 abbrev pub with_gate : CheckerFacts → ℕ → CheckerFacts
 with_gate k t = record { terms = k.terms; claims = k.claims; gates = k.gates ++ t ∷ [] }
 
--- what there is after one more line
+-- the facts after one more line
 abbrev pub after : CheckerFacts → CertLine → CheckerFacts
 after k (Term var low high) = with_term k (record { var = var; low = low; high = high })
 after k (And left right both) = with_claim k (claim.And left right both)
@@ -37,6 +37,6 @@ after_all k (line ∷ more) = after_all (after k line) more
 abbrev pub nothing : CheckerFacts
 nothing = record { terms = []; claims = []; gates = [] }
 
--- what some lines make
+-- the facts that lines make
 abbrev pub facts_of : List CertLine → CheckerFacts
 facts_of lines = after_all nothing lines

@@ -1,4 +1,5 @@
--- A text has one first fault at most, and none if it is a certificate; and what faults a certificate can have over another net.
+-- A text has at most one first fault, and none if it is a certificate; and the faults that a certificate can have for
+-- another net.
 use Rattle.std.specs.Prelude.{ℕ, ◌≡◌, ◌≤◌, List}
 use Rattle.cert_checker.specs.Certificates.{CertOk, IsFirstFault}
 use Rattle.cert_checker.specs.declared.demands.Demands.{Demands}
@@ -11,7 +12,8 @@ FaultsAreFirst =
     (g : Demands) (text : List ℕ) (fault : CertFault) → IsFirstFault g text fault →
     (CertOk g text → ⊥) × ((other : CertFault) → IsFirstFault g text other → other ≡ fault)
 
--- the reasons that depend on the gates of the net or on the demanded ones; the others depend on the text and the number of variables alone
+-- the errors that depend on the gates of the net or on the demanded ones; the others depend only on the text and the
+-- number of variables
 abbrev pub IsOfGates : CertWhy → Type 0
 IsOfGates why.Syntax = ⊥
 IsOfGates why.Number = ⊥
@@ -20,7 +22,8 @@ IsOfGates why.Gate = Unit {0}
 IsOfGates why.Missing = Unit {0}
 IsOfGates why.Rule = Unit {0}
 
--- a certificate of some demands can have a fault over others, with as many variables and the same settings, only by their gates, and behind its head
+-- a certificate of some demands can have a fault for other demands with as many variables and the same settings only
+-- because of their gates, and only after its head
 abbrev pub OthersRefuseByGates : Type 0
 OthersRefuseByGates =
     (g h : Demands) (text : List ℕ) (fault : CertFault) → g.settings ≡ h.settings → g.net.vars ≡ h.net.vars → CertOk g text → IsFirstFault h text fault →

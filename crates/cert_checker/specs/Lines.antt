@@ -34,7 +34,7 @@ numbers_of (NotCases of not var low high) = of ∷ not ∷ var ∷ low ∷ high 
 numbers_of (Gate term) = term ∷ []
 numbers_of (GateBy term claim) = term ∷ claim ∷ []
 
--- numbers in decimal, each behind a blank, and the end of the line
+-- numbers in decimal, each after a blank, and the end of the line
 abbrev pub numbers_text : List ℕ → List ℕ
 numbers_text [] = 10 ∷ []
 numbers_text (n ∷ more) = 32 ∷ (decimal n ++ numbers_text more)

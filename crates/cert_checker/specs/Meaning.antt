@@ -7,11 +7,11 @@ use Rattle.cert_checker.specs.declared.known.Claim.{Claim}
 use Rattle.cert_checker.specs.declared.known.Claim.TheVariants as claim
 use Rattle.cert_checker.specs.declared.known.TermDef.{TermDef}
 
--- the value of a term that is made behind others, from theirs
+-- the value of a term, from the values of the earlier ones
 abbrev pub made_value : List Bool → List Bool → TermDef → Bool
 made_value w earlier m = cond (get_or w m.var false) (get_or earlier m.high false) (get_or earlier m.low false)
 
--- the values of some terms behind earlier ones, under a pattern of bits
+-- the values of earlier terms, followed by those of further ones, under a pattern of bits
 unfoldable pub term_values : List Bool → List Bool → List TermDef → List Bool
 term_values w earlier [] = earlier
 term_values w earlier (m ∷ more) = term_values w (earlier ++ made_value w earlier m ∷ []) more

@@ -12,12 +12,12 @@ use Rattle.cert_checker.specs.declared.known.TermDef.{TermDef}
 use Rattle.cert_checker.specs.declared.line.CertLine.{CertLine}
 use Rattle.cert_checker.specs.declared.line.CertLine.TheVariants.{Term, And, AndCases, Not, NotCases, Gate as GateIs, GateBy}
 
--- ---- terms. Terms 0 and 1 were made by no line: they are falsehood and truth.
+-- ---- terms. No line defines terms 0 and 1: they are falsehood and truth.
 
 abbrev pub made_at : List TermDef → ℕ → Option TermDef
 made_at terms t = if nat_lt t 2 then None else slice_get terms (t - 2)
 
--- the part of a term where variable v is b: what the term has there, if it was made on this variable, else the term
+-- the part of a term where variable v is b: one of its two terms, if it was made on this variable, else the term itself
 abbrev pub part_by : Option TermDef → ℕ → Bool → ℕ → ℕ
 part_by None v b t = t
 part_by (Some m) v b t = if m.var == v then cond b m.high m.low else t
@@ -47,7 +47,7 @@ is_term k t = nat_lt t (length k.terms + 2)
 abbrev pub is_claim : CheckerFacts → ℕ → Bool
 is_claim k p = nat_lt p (length k.claims)
 
--- each number names an earlier term, an earlier claim or a variable, as its place asks
+-- each number names an earlier term, an earlier claim or a variable, as its place requires
 abbrev pub names : ℕ → CheckerFacts → CertLine → Bool
 names vars k (Term var low high) = nat_lt var vars && (is_term k low && is_term k high)
 names vars k (And left right both) = is_term k left && (is_term k right && is_term k both)
@@ -58,7 +58,7 @@ names vars k (NotCases of not var low high) = (is_term k of && is_term k not) &&
 names vars k (GateIs term) = is_term k term
 names vars k (GateBy term by) = is_term k term && is_claim k by
 
--- what two terms together are, at once: one is falsehood, one is truth, or both are the same
+-- an evident conjunction of two terms: one is falsehood, one is truth, or both are the same
 abbrev pub is_plain_and : ℕ → ℕ → ℕ → Bool
 is_plain_and a b c = (a == 0 && c == 0) || ((b == 0 && c == 0) || ((a == 1 && c == b) || ((b == 1 && c == a) || (a == b && b == c))))
 
@@ -94,7 +94,7 @@ gate_matches_plainly k term (Some (gate.Const b)) = term == cond b 1 0
 gate_matches_plainly k term (Some (gate.Var v)) = is_made (made_at k.terms term) v 0 1
 gate_matches_plainly k term _ = false
 
--- a claim says of the terms of earlier gates what a gate asks
+-- a claim says about the terms of earlier gates what the gate requires
 abbrev pub not_claims : Option Claim → Option ℕ → ℕ → Bool
 not_claims c (Some a) term = claims c (claim.Not a term)
 not_claims c None term = false
@@ -109,7 +109,7 @@ gate_matches_by k term c (Some (gate.Not a)) = not_claims c (slice_get k.gates a
 gate_matches_by k term c (Some (gate.And a b)) = and_claims c (slice_get k.gates a) (slice_get k.gates b) term
 gate_matches_by k term c _ = false
 
--- the next gate is the one behind those that have their terms
+-- the next gate is the one after those that have their terms
 abbrev pub gate_matches : Gates → CheckerFacts → CertLine → Bool
 gate_matches net k (GateIs term) = gate_matches_plainly k term (slice_get net.gates (length k.gates))
 gate_matches net k (GateBy term by) = gate_matches_by k term (slice_get k.claims by) (slice_get net.gates (length k.gates))
@@ -117,7 +117,7 @@ gate_matches net k _ = true
 
 -- ---- the rule
 
--- what is wrong with a line, if anything
+-- the error in a line, if it has one
 unfoldable pub flaw : Gates → CheckerFacts → CertLine → Option CertWhy
 flaw net k line =
     if not (names net.vars k line) then Some why.Number

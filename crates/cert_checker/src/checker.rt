@@ -13,7 +13,7 @@ use crate::rules::CheckerState;
 use pipe_motion::Settings;
 use std::alloc::Global;
 
-/// The place of the first demanded gate that hasn't the term of truth.
+/// The index of the first demanded gate that doesn't have term 1, truth.
 fn first_open(known: &CheckerState, want: &[u64]) -> Option<usize>
     ensures { MatchOption result ((k w : ℕ) → slice_get want.now k ≡ Some w → slice_get known.now.gates w ≡ Some 1)
         (λ k. (w : ℕ) × (slice_get want.now k ≡ Some w) × (slice_get known.now.gates w ≢ Some 1)) }
@@ -38,7 +38,7 @@ fn fault_at(line: u64, why: CertWhy) -> CertError
     CertError::Cert(CertFault { line, why })
 }
 
-/// The end of a certificate, where no further line stands.
+/// Checks the end of a certificate, where no further line follows.
 fn ended(g: &Demands, known: &CheckerState, rest: &[u8], line: u64) -> Result<(), CertError>
     requires few { line < 2 ^ 63 }
     ensures ok { OnOk result ((text : List ℕ) (lines : List CertLine) → HasRightLines g.now text lines rest.now → known.now ≡ facts_of lines → CertOk g.now text) }
@@ -69,9 +69,9 @@ fn same_settings(a: &Settings, b: &Settings) -> bool
     *a == *b
 }
 
-/// Checks that a text is a certificate of what is demanded: each line by the rule, from the earlier lines that it names
-/// alone. If it isn't one, tells its first line with a fault. Takes 12 bytes
-/// for each `t` line, 16 for each claim and 4 for each gate, in vectors that double.
+/// Checks that a text is a certificate of the demands: each line by the rule, from the earlier lines that it names
+/// and from nothing else. If it isn't a certificate, the first line with a fault is reported. Takes 12 bytes for each
+/// `t` line, 16 for each claim and 4 for each gate, in vectors that double.
 ///
 /// Errors: `Cert` with the first fault; `Memory`.
 pub fn recheck(alloc: Global, g: &Demands, bytes: &[u8]) -> Result<(), CertError>

@@ -1,30 +1,30 @@
-//! Why a text is no certificate.
+//! Why a text isn't a certificate.
 use thiserror::Error;
 
-/// What is wrong with a line of a certificate. Of several reasons at one line the first of this order is reported.
+/// The error in a line of a certificate. If a line has several, the first one in this order is reported.
 #[derive(Clone, Copy, Debug, PartialEq, Eq, Error)]
 pub enum CertWhy {
-    /// It is no line of a certificate, or not the one that has to stand there.
+    /// It isn't a line of a certificate, or not the one that is required there.
     #[error("Syntax")]
     Syntax,
-    /// It names no earlier term or claim, or no variable.
+    /// One of its numbers doesn't name an earlier term, an earlier claim or a variable, as its place requires.
     #[error("Number")]
     Number,
     /// It makes a claim that isn't justified.
     #[error("Claim")]
     Claim,
-    /// It doesn't fit the next gate, or there is none.
+    /// It doesn't fit the next gate, or there is no next gate.
     #[error("Gate")]
     Gate,
-    /// The end, before each gate has its line.
+    /// The certificate ends before each gate has its line.
     #[error("Missing")]
     Missing,
-    /// The end, where a demanded gate hasn't term 1.
+    /// The certificate ends, but a demanded gate doesn't have term 1.
     #[error("Rule")]
     Rule,
 }
 
-/// The first line that is at fault, counted from 1.
+/// The first line with a fault, counted from 1.
 #[derive(Clone, Copy, Debug, PartialEq, Eq, Error)]
 #[error("{line}: {why}")]
 pub struct CertFault {
@@ -35,7 +35,7 @@ pub struct CertFault {
 /// Why a certificate isn't accepted.
 #[derive(Clone, Copy, Debug, PartialEq, Eq, Error)]
 pub enum CertError {
-    /// The text is no certificate of what is demanded.
+    /// The text isn't a certificate of the demands.
     #[error("{0}")]
     Cert(CertFault),
     /// An allocation was refused.

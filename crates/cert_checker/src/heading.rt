@@ -1,4 +1,4 @@
-//! The first two lines of a certificate: what it is, and a yes of the pipeline's check.
+//! The first two lines of a certificate: its format, and the `yes` of PIPE's check.
 ghost use Rattle.std.specs.Prelude.{◌≡◌, ◌≤◌, ◌==◌, ◌++◌, ◌⊎◌, ℕ, List, drop, get_or, length, IfErr, IfOk, OnOk};
 ghost use Rattle.cert_checker.specs.Certificates as spec;
 
@@ -7,7 +7,7 @@ use pipe_motion::Settings;
 use std::alloc::Global;
 use verdict_text::pipe_acceptance;
 
-/// The bytes of the first two lines.
+/// The number of bytes of the first two lines.
 pub const HEAD: usize = 56;
 
 /// Whether a setting's digit is 1.
@@ -20,7 +20,7 @@ fn is_set(bytes: &[u8], i: usize) -> bool
     }
 }
 
-/// The settings that a yes states, by the places of its digits.
+/// The settings that a `yes` states, read from the places of its digits.
 #[tactic(auto, unfolding(crate::specs::Certificates::settings_at))]
 fn settings_at(t: &[u8]) -> Settings
     ensures { result ≡ spec.settings_at t.now }
@@ -53,7 +53,7 @@ fn settings_at(t: &[u8]) -> Settings
     }
 }
 
-/// A line that isn't of its form.
+/// The error of a malformed line.
 pub fn syntax_at(line: u64) -> CertError
     ensures { result ≡ spec.syntax_at line }
 {
@@ -65,7 +65,7 @@ pub fn syntax_at(line: u64) -> CertError
 
 /// The settings that a certificate states on its second line.
 ///
-/// Errors: `Cert` with `Syntax` at line 1 or 2, the first of them that isn't of its form; `Memory`.
+/// Errors: `Cert` with `Syntax` at line 1 or 2, the first of them that is malformed; `Memory`.
 pub fn stated(alloc: Global, bytes: &[u8]) -> Result<Settings, CertError>
     ensures states { IfOk result (λ s. spec.StatesSettings bytes.now s (drop 56 bytes.now)) }
     ensures long { OnOk result (56 ≤ length bytes.now) }

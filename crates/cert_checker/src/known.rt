@@ -1,6 +1,6 @@
 //! What the lines of a certificate make: terms and claims.
 
-/// What made a term: a variable, and the terms where it is 0 and where it is 1.
+/// The definition of a term: a variable, and the terms for its values 0 and 1.
 #[derive(Clone, Copy, Debug, PartialEq, Eq)]
 pub struct TermDef {
     pub var: u32,
@@ -8,7 +8,7 @@ pub struct TermDef {
     pub high: u32,
 }
 
-/// A claim about terms: that two of them together are a third, or that one is the negation of another.
+/// A claim about terms: that one is the conjunction of two others, or that one is the negation of another.
 #[derive(Clone, Copy, Debug, PartialEq, Eq)]
 pub enum Claim {
     And { left: u32, right: u32, both: u32 },

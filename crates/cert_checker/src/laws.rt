@@ -2,17 +2,17 @@
 ghost use Rattle.cert_checker.specs.Faults.{FaultsAreFirst, OthersRefuseByGates};
 ghost use Rattle.cert_checker.specs.Meaning.{CertificatesShow};
 
-/// Where a text is a certificate of some demands, each demanded gate is true at every pattern of bits.
+/// If a text is a certificate of some demands, each demanded gate is true at every pattern of bits.
 pub fn law_of_certificates()
     ensures { CertificatesShow }
 {}
 
-/// A certificate has no fault, and another text has one first fault.
+/// A text has at most one first fault, and none if it is a certificate.
 pub fn law_of_faults()
     ensures { FaultsAreFirst }
 {}
 
-/// A certificate can be refused over another net, with as many variables, only because of that net's gates: its form, its
+/// A certificate can be refused for another net with as many variables only because of that net's gates: its form, its
 /// numbers and its claims are right there too.
 pub fn law_of_other_nets()
     ensures { OthersRefuseByGates }

@@ -1,6 +1,6 @@
-//! Certificates: a yes of the pipeline's check, written down as lines that are checked one by one, each against the
-//! earlier lines that it names. The checker has no order of variables, no reduction and no store of nodes, and stands on
-//! no code of the diagrams. `docs/CERTIFICATES.md` has the form.
+//! Certificates: proofs of a `yes` of PIPE's check, as lines that are checked one by one, each against the earlier
+//! lines that it names. The checker has no order of variables, no reduction and no store of nodes, and uses no code
+//! of the diagrams. `docs/CERTIFICATES.md` describes the format.
 #![tactic(auto)]
 
 mod checker;

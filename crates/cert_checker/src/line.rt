@@ -3,7 +3,7 @@
 /// A line of a certificate, with its numbers as they are written: those of variables, of terms and of claims.
 #[derive(Clone, Copy)]
 pub enum CertLine {
-    /// Makes the next term: `low` where the variable is 0, and `high` where it is 1.
+    /// Makes the next term: `low` if the variable is 0, and `high` if it is 1.
     Term {
         var: u64,
         low: u64,

@@ -1,4 +1,4 @@
-//! Numbers as certificates write them: in decimal, without a `0` in front of another digit, and below 2^64.
+//! Numbers as certificates write them: in decimal, without leading zeros, and below 2^64.
 ghost use Rattle.std.specs.Prelude.{◌≡◌, ◌+◌, ◌*◌, ◌^◌, ◌<◌, ◌≤◌, ◌++◌, ℕ, List, length, take, take_while, true, false, None, Some, IfSome, IsSomeAnd, MatchOption};
 ghost use Rattle.std.specs.Char.{digit_value};
 ghost use Rattle.std.specs.Fmt.{decimal};
@@ -8,7 +8,7 @@ ghost use Rattle.cert_checker.specs.Lines.{AreWords, numbers_text};
 
 use y86_base::{after_byte, is_decimal};
 
-/// A number with one more digit behind it, where it is below 2^64.
+/// A number with one more digit at its end, if that is below 2^64.
 #[tactic(auto, using(crate::proofs::Decimals::more_digit))]
 fn with_digit(n: u64, digit: u8) -> Option<u64>
     requires { is_digit digit ≡ true }
@@ -17,7 +17,7 @@ fn with_digit(n: u64, digit: u8) -> Option<u64>
     n.checked_mul(10)?.checked_add((digit - b'0') as u64)
 }
 
-/// The digits in front as a number, and what stands behind them; None where the number isn't below 2^64.
+/// The leading digits as a number, and the bytes after them; `None` if the number isn't below 2^64.
 #[tactic(auto, using(crate::proofs::Decimals::run_more, crate::proofs::Decimals::run_stops_at, crate::proofs::Decimals::run_too_large))]
 fn digits_at(bytes: &[u8]) -> Option<(u64, &[u8])>
     ensures { MatchOption result (below_word (digits_value 10 (take_while is_digit bytes.now)) ≡ None)
@@ -36,7 +36,7 @@ fn digits_at(bytes: &[u8]) -> Option<(u64, &[u8])>
     Some((n, &bytes[bytes.len()..]))
 }
 
-/// The number in front, and what stands behind its digits.
+/// The number at the front, and the bytes after its digits.
 fn number_at(bytes: &[u8]) -> Option<(u64, &[u8])>
     ensures found { IfSome result (λ x. bytes.now ≡ decimal x.0 ++ x.1.now) }
     ensures small { IfSome result (λ x. x.0 < 2 ^ 64) }
@@ -55,7 +55,7 @@ fn number_at(bytes: &[u8]) -> Option<(u64, &[u8])>
     digits_at(bytes)
 }
 
-/// So many numbers, each behind a blank, and the end of the line; and what stands behind it. The numbers fill the first of
+/// `count` numbers, each after a blank, then the end of the line; and the bytes after it. The numbers fill the first of
 /// six places.
 pub fn numbers_at(bytes: &[u8], count: usize) -> Option<([u64; 6], &[u8])>
     requires { count ≤ 6 }

@@ -7,7 +7,7 @@ ghost use Rattle.cert_checker.specs.declared.line.CertLine.{CertLine};
 use crate::line::{CertLine, LineKind};
 use crate::numbers::numbers_at;
 
-/// The kind of lines that a letter begins.
+/// The kind of the lines that begin with a letter.
 fn kind_of(letter: u8) -> Option<LineKind>
     ensures { MatchOption result ((k : LineKind) → spec.letter k ≡ letter → ⊥) (λ k. spec.letter k ≡ letter) }
 {
@@ -91,7 +91,7 @@ fn line_with(kind: LineKind, n: &[u64; 6]) -> CertLine
     }
 }
 
-/// The line in front, and what stands behind it.
+/// The line at the front, and the bytes after it.
 pub fn line_at(bytes: &[u8]) -> Option<(CertLine, &[u8])>
     ensures found { IfSome result (λ x. spec.IsLine x.0 × (bytes.now ≡ spec.line_text x.0 ++ x.1.now)) }
     ensures only { (line : CertLine) (rest : List ℕ) → spec.IsLine line → bytes.now ≡ spec.line_text line ++ rest →

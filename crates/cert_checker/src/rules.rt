@@ -12,7 +12,7 @@ use std::alloc::Global;
 use std::marker::Model;
 use y86_base::Memory;
 
-/// What made a term. No line made terms 0 and 1.
+/// The definition of a term. Terms 0 and 1 have none.
 pub fn made_at(terms: &[TermDef], t: u64) -> Option<TermDef>
     ensures { result ≡ spec.made_at terms.now t }
 {
@@ -22,7 +22,7 @@ pub fn made_at(terms: &[TermDef], t: u64) -> Option<TermDef>
     terms.get((t - 2) as usize).copied()
 }
 
-/// The part of a term where a variable is 0, or is 1.
+/// The part of a term where a variable is 0, or (`high`) is 1.
 pub fn part(terms: &[TermDef], var: u64, high: bool, t: u64) -> u64
     ensures part { result ≡ spec.part terms.now var high t }
     ensures small { t < 2 ^ 32 → result < 2 ^ 32 }
@@ -43,7 +43,7 @@ pub fn part(terms: &[TermDef], var: u64, high: bool, t: u64) -> u64
     }
 }
 
-/// Whether a term was made of two others by a variable.
+/// Whether a definition has this variable and these two terms.
 pub fn is_made(made: Option<TermDef>, var: u32, low: u32, high: u32) -> bool
     ensures { result ≡ spec.is_made made var low high }
 {
@@ -53,7 +53,7 @@ pub fn is_made(made: Option<TermDef>, var: u32, low: u32, high: u32) -> bool
     }
 }
 
-/// Whether a claim says that two terms together are a third.
+/// Whether a claim says that a term is the conjunction of two others.
 fn claims_and(found: Option<Claim>, left: u64, right: u64, both: u64) -> bool
     ensures { result ≡ spec.claims found (claim.And left right both) }
 {
@@ -79,7 +79,7 @@ fn claims_not(found: Option<Claim>, of: u64, not: u64) -> bool
     }
 }
 
-/// Whether two terms together are a third, at once.
+/// Whether a term is evidently the conjunction of two others, without a claim.
 pub fn is_plain_and(a: u64, b: u64, c: u64) -> bool
     ensures { result ≡ spec.is_plain_and a b c }
 {
@@ -88,14 +88,14 @@ pub fn is_plain_and(a: u64, b: u64, c: u64) -> bool
             || ((a == 1 && c == b) || ((b == 1 && c == a) || (a == b && b == c))))
 }
 
-/// Whether a term is the negation of another, at once.
+/// Whether a term is evidently the negation of another, without a claim.
 pub fn is_plain_not(a: u64, c: u64) -> bool
     ensures { result ≡ spec.is_plain_not a c }
 {
     (a == 0 && c == 1) || (a == 1 && c == 0)
 }
 
-/// The cases of a variable: the claim named where it is 0, and that where it is 1.
+/// The cases of a variable: the numbers of the claim for its value 0 and of the one for its value 1.
 #[derive(Clone, Copy)]
 struct Cases {
     var: u64,
@@ -122,7 +122,7 @@ impl Model for CheckerState {
     ghost invariant = { λ k. length k.terms.items ≤ 4000000000 };
 }
 
-/// How many terms there may be, so that each number fits in 32 bits.
+/// The most terms that there may be, so that each number fits in 32 bits.
 const MOST: usize = 4_000_000_000;
 
 impl CheckerState {
@@ -130,7 +130,7 @@ impl CheckerState {
     ghost use Rattle.cert_checker.specs.CheckerFacts.{after, nothing};
     ghost use Rattle.cert_checker.specs.Rules as spec;
 
-    /// Nothing yet.
+    /// The state before the first line.
     pub fn new(alloc: Global) -> CheckerState
         ensures { result ≡ nothing }
     {
@@ -169,7 +169,7 @@ impl CheckerState {
         p < self.claims.len() as u64
     }
 
-    /// Whether each number of a line names what it has to.
+    /// Whether each number of a line names an earlier term, an earlier claim or a variable, as its place requires.
     fn names(&self, vars: u32, line: CertLine) -> bool
         ensures { result ≡ spec.names vars self.now line }
     {
@@ -207,7 +207,7 @@ impl CheckerState {
         }
     }
 
-    /// Whether claims say of the parts of three terms what is claimed of the terms.
+    /// Whether the claims of both cases say about the parts of three terms what is claimed about the terms.
     fn and_by_cases(&self, left: u64, right: u64, both: u64, by: Cases) -> bool
         ensures { result ≡ spec.and_by_cases self.now.terms self.now.claims left right both by.var by.low by.high }
     {
@@ -226,7 +226,7 @@ impl CheckerState {
         )
     }
 
-    /// The same of two terms, of which one is the negation of the other.
+    /// The same for two terms, one of which is the negation of the other.
     fn not_by_cases(&self, of: u64, not: u64, by: Cases) -> bool
         ensures { result ≡ spec.not_by_cases self.now.terms self.now.claims of not by.var by.low by.high }
     {
@@ -310,7 +310,7 @@ impl CheckerState {
         }
     }
 
-    /// Whether a line fits the next gate, if it speaks of one.
+    /// Whether a line fits the next gate, if it is about a gate.
     fn gate_matches(&self, net: &Net, line: CertLine) -> bool
         ensures { result ≡ spec.gate_matches net.now self.now line }
     {
@@ -328,7 +328,7 @@ impl CheckerState {
         }
     }
 
-    /// What is wrong with a line behind those so far, if anything.
+    /// The error in a line that follows those so far, if it has one.
     #[tactic(auto, unfolding(crate::specs::Rules::flaw))]
     pub fn flaw(&self, net: &Net, line: CertLine) -> Option<CertWhy>
         ensures { result ≡ spec.flaw net.now self.now line }
@@ -354,7 +354,7 @@ impl CheckerState {
         t as u32
     }
 
-    /// Puts a term behind the others.
+    /// Appends a term.
     fn add_term(&mut self, var: u32, low: u32, high: u32) -> Result<(), Memory>
         ensures { OnOk result (self.new ≡ with_term self.old (record { var = var; low = low; high = high })) }
     {
@@ -367,7 +367,7 @@ impl CheckerState {
         }
     }
 
-    /// Puts a claim behind the others.
+    /// Appends a claim.
     fn add_claim(&mut self, claim: Claim) -> Result<(), Memory>
         ensures { OnOk result (self.new ≡ with_claim self.old claim) }
     {
@@ -377,7 +377,7 @@ impl CheckerState {
         }
     }
 
-    /// Puts the term of a gate behind the others.
+    /// Appends the term of a gate.
     fn add_gate(&mut self, term: u32) -> Result<(), Memory>
         ensures { OnOk result (self.new ≡ with_gate self.old term) }
     {
@@ -387,7 +387,7 @@ impl CheckerState {
         }
     }
 
-    /// Takes what a line makes that isn't wrong.
+    /// Adds what a correct line makes: a term, a claim or the term of a gate.
     pub fn add(&mut self, vars: u32, line: CertLine) -> Result<(), Memory>
         requires { spec.names vars self.old line ≡ true }
         ensures { OnOk result (self.new ≡ after self.old line) }

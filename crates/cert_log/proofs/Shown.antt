@@ -26,7 +26,7 @@ use Rattle.pipe_fields.specs.Layout.{bit_count}
 use Rattle.ctl_atoms.specs.declared.leaf.Atom.{Atom}
 use Rattle.cert_log.proofs.Wanted.{certified_hold, certified_refine, demands_tell}
 
--- ---- a design with control values has no fault of them
+-- ---- a design with control values doesn't have the faults of one without
 
 pub not_mixed : (terms : List Term) (n : ℕ) → HasControlValues terms → IsFirstMixed pipe_rows terms n → ⊥
 not_mixed terms n h mixed = false≢true (sym (h.are.pure n) ∙ mixed.mixed)
@@ -42,7 +42,7 @@ not_over terms ids o h over =
 pub has_atoms : (v : Variant) (terms : List Term) (s : Settings) → MeetsAt v terms s → HasControlValues terms
 has_atoms v terms s m = record { atoms = m.atoms; are = m.are }
 
--- ---- what is demanded of a file that meets its obligations is nowhere false
+-- ---- the demands of a file that meets its obligations are nowhere false
 
 pub never_open : (v : Variant) (terms : List Term) (ids : List ℕ) (s : Settings) (g : Demands) → IsOrderOf pipe_rows terms ids → MeetsAt v terms s → DemandsFor v terms s g → HasFalseDemand g → ⊥
 never_open v terms ids s g o m d some =
@@ -59,7 +59,7 @@ pub refined : (v : Variant) (terms : List Term) (ids : List ℕ) (s : Settings) 
     CertOk g text → RefinesPipe v terms
 refined v terms ids s g text bound o d c = λ image k is_image pure. certified_refine v terms ids s g text image k bound o d c is_image pure
 
--- ---- a certificate over the same design
+-- ---- a certificate for the same design
 
 module _ (v : Variant) (terms : List Term) (ids : List ℕ) (s : Settings) (text : List ℕ) (o : IsOrderOf pipe_rows terms ids) (c : IsCertificate v terms s text) where
   one_settings : (t : Settings) → IsCertificate v terms t text → t ≡ s

@@ -1,4 +1,4 @@
--- What is demanded of a file, and what its certificate shows.
+-- The demands of a file, and what its certificate shows.
 use Rattle.std.proofs.Common.{◌≡◌, ℕ, ◌+◌, ◌-◌, ◌<◌, ◌≤◌, Bool, true, false, cond, List, [], ◌∷◌, ◌++◌, length, map, take, get_or, slice_get, Some, unwrap_or, inl, inr, refl, sym, ap, ◌∙◌, subst, length-append, arith}
 use Rattle.std.proofs.lemmas.Bool.{cases_lt, false≢true}
 use Rattle.std.proofs.lemmas.List.{get_or-map, get_or_append_left, get_or_push, length-map, map_more, take_all}
@@ -98,12 +98,12 @@ demanded v terms ids s p net list want o belong same rules begins e = record {
 entry_is : (xs : List ℕ) (k i : ℕ) → slice_get xs k ≡ Some i → get_or xs k 0 ≡ i
 entry_is xs k i at = ap (λ o. unwrap_or o 0) (sym (slice_get-get_or xs k 0 (slice_get_within xs k i at)) ∙ at)
 
--- behind the obligations stands at most one gate
+-- at most one gate follows the obligations
 last_is : (b : Bool) (k : ℕ) → k < cond b (rule_count + 1) rule_count → rule_count ≤ k → (b ≡ true) × (k ≡ rule_count)
 last_is true k lt le = (refl, omega (arith, lt, le))
 last_is false k lt le = absurd (omega (arith, lt, le))
 
--- what holds of each obligation, and of the gate behind them, holds of each demanded gate
+-- what holds for each obligation, and for the gate after them, holds for each demanded gate
 each_demanded : (v : Variant) (terms : List Term) (s : Settings) (g : Demands) (d : DemandsFor v terms s g) (P : ℕ → Type 0) →
     ((k : ℕ) → k < rule_count → P (get_or g.want k 0)) → (s.tv ≡ true → P (get_or g.want rule_count 0)) → (k i : ℕ) → slice_get g.want k ≡ Some i → P i
 each_demanded v terms s g d P rules target k i at =
@@ -117,7 +117,7 @@ each_demanded v terms s g d P rules target k i at =
 pub inside : (v : Variant) (terms : List Term) (s : Settings) (g : Demands) → DemandsFor v terms s g → AreInside g
 inside v terms s g d = each_demanded v terms s g d (λ n. n < length g.net.gates) (λ k lt. (d.obligations k lt).within) (λ t. (d.target t).within)
 
--- ---- what a certificate shows of a file
+-- ---- what a certificate shows about a file
 
 module _ (v : Variant) (terms : List Term) (ids : List ℕ) (o : IsOrderOf pipe_rows terms ids) where
   apart : (a : List Atom) → AreAtoms pipe_rows terms a → AreApart a

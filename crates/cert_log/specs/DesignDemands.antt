@@ -1,4 +1,4 @@
--- What a certificate of a file for PIPE has to show at settings, and what it shows.
+-- What a certificate of a file for PIPE has to show at given settings, and what it shows.
 use Rattle.std.specs.Prelude.{ℕ, ◌≡◌, ◌+◌, ◌<◌, true, cond, List, length, get_or}
 use Rattle.y86_base.specs.declared.parts.Variant.{Variant}
 use Rattle.y86_isa.specs.Run.{IsImage}
@@ -23,8 +23,9 @@ use Rattle.cert_writer.specs.Writing.{AreDemandsTrue}
 abbrev pub gate_of : Rule → ℕ
 gate_of rule = rule.gate
 
--- The demands are those of a file with these definitions at settings s: their net has one variable for each bit of a control valuation; their gates are its
--- obligations, in order, and behind them, where s says that jumps carry their targets, the gate that tells whether they do.
+-- The demands are those of a file with these definitions at settings s. Their net has one variable for each bit of a
+-- control valuation. Their gates are its obligations, in order, followed, if s says that jumps carry their targets,
+-- by the gate that is true where they do.
 pub record DemandsFor (v : Variant) (terms : List Term) (s : Settings) (g : Demands) : Type 0 where
   pub settings : g.settings ≡ s
   pub atoms : List Atom
@@ -34,20 +35,20 @@ pub record DemandsFor (v : Variant) (terms : List Term) (s : Settings) (g : Dema
   pub obligations : (k : ℕ) → k < rule_count → IsDesignGate terms atoms g.net (get_or g.want k 0) (obligation v s atoms (k + 1))
   pub target : s.tv ≡ true → IsDesignGate terms atoms g.net (get_or g.want rule_count 0) (alu_passes_target v s)
 
--- what is demanded of a file is true at every pattern of bits exactly where the file meets its obligations
+-- the demands of a file are true at every pattern of bits exactly if the file meets its obligations
 abbrev pub DemandsAreExact : Type 0
 DemandsAreExact =
     (v : Variant) (terms : List Term) (ids : List ℕ) (atoms : List Atom) (s : Settings) (g : Demands) →
     IsOrderOf pipe_rows terms ids → AreAtoms pipe_rows terms atoms → DemandsFor v terms s g →
     (AreDemandsTrue g → MeetsObligations v terms atoms s) × (MeetsObligations v terms atoms s → AreDemandsTrue g)
 
--- where a text is a certificate of what is demanded of a file at settings, the file meets its obligations at them
+-- if a text is a certificate of the demands of a file at settings, the file meets its obligations at them
 abbrev pub CertifiedFilesHold : Type 0
 CertifiedFilesHold =
     (v : Variant) (terms : List Term) (ids : List ℕ) (atoms : List Atom) (s : Settings) (g : Demands) (text : List ℕ) →
     IsOrderOf pipe_rows terms ids → AreAtoms pipe_rows terms atoms → DemandsFor v terms s g → CertOk g text → MeetsObligations v terms atoms s
 
--- so it refines the run of instructions
+-- so a certified file refines the run of instructions
 abbrev pub CertifiedFilesRefine : Type 0
 CertifiedFilesRefine =
     (v : Variant) (terms : List Term) (ids : List ℕ) (s : Settings) (g : Demands) (text : List ℕ) (image : List ℕ) (k : ℕ) →

@@ -1,4 +1,4 @@
--- Certificates of files: a right one, and why a text is none.
+-- Certificates of files: when one is right, and why a text isn't one.
 use Rattle.std.specs.Prelude.{ℕ, ◌≡◌, ◌≤◌, ◌⊎◌, List, ◌++◌, codes, drop}
 use Rattle.y86_base.specs.declared.parts.Variant.{Variant}
 use Rattle.hcl_types.specs.declared.term.Term.{Term}
@@ -34,7 +34,7 @@ pub record IsCertificate (v : Variant) (terms : List Term) (s : Settings) (text 
   pub are : DemandsFor v terms s demands
   pub right : CertOk demands text
 
--- a text that states settings, and its first fault over what is demanded of the file at them
+-- a text that states settings, and its first fault for the demands of the file at these settings
 pub record HasFault (v : Variant) (terms : List Term) (text : List ℕ) (fault : CertFault) : Type 0 where
   pub settings : Settings
   pub rest : List ℕ
@@ -43,19 +43,20 @@ pub record HasFault (v : Variant) (terms : List Term) (text : List ℕ) (fault :
   pub are : DemandsFor v terms settings demands
   pub first : IsFirstFault demands text fault
 
--- a text is no certificate of the file: it states no settings, or has a first fault; or out of memory
+-- a text isn't a certificate of the file: it states no settings, or has a first fault; or out of memory
 abbrev pub IsRefused : Variant → List Term → List ℕ → CertError → Type 0
 IsRefused v terms text (error.Cert fault) = HasNoHead text fault ⊎ HasFault v terms text fault
 IsRefused v terms text error.Memory = Unit {0}
 
--- A certificate of a design is of one list of settings, and the check of it over the same design can refuse it only because of the gates
--- of its net: never because of the form, a number or a claim. (Nothing says that two calls make the same net.)
+-- A certificate of a design is for one list of settings. The check of it for the same design can refuse it only
+-- because of the gates of its net: never because of the form, a number or a claim. (Nothing says that two calls make
+-- the same net.)
 abbrev pub CertificatesAreKept : Type 0
 CertificatesAreKept =
     (v : Variant) (terms : List Term) (ids : List ℕ) (s : Settings) (text : List ℕ) → IsOrderOf pipe_rows terms ids → IsCertificate v terms s text →
     ((t : Settings) → IsCertificate v terms t text → t ≡ s)
     × ((fault : CertFault) → IsRefused v terms text (error.Cert fault) → IsOfGates fault.why × (3 ≤ fault.line))
 
--- the line of an accepted certificate: that of a yes at its settings, but for the first word
+-- the line of an accepted certificate: that of a `yes` at its settings, except for the first word
 unfoldable pub holds_line : Settings → List ℕ
 holds_line s = codes "holds" ++ drop 3 (pipe_yes s)

@@ -1,4 +1,4 @@
-//! What a certificate of a file for PIPE has to show at some settings.
+//! What a certificate of a file for PIPE has to show at given settings.
 ghost use Rattle.std.specs.Prelude.{◌≡◌, ◌++◌, ◌∷◌, [], cond, map, IfErr, IfOk, OnOk};
 ghost use Rattle.ctl_atoms.specs.Atoms.{IsCtlFault};
 ghost use Rattle.dp_signals.specs.PipeTable.{pipe_rows};
@@ -15,7 +15,7 @@ use pipe_motion::Settings;
 use std::alloc::Global;
 use y86_base::{Items, Memory, Variant};
 
-/// Puts a gate behind others.
+/// Appends a gate.
 fn push_gate(gates: &mut Vec<u64>, gate: u64) -> Result<(), Memory>
     ensures { OnOk result (gates.new.items ≡ gates.old.items ++ gate ∷ []) }
 {
@@ -37,8 +37,8 @@ fn gates_of(alloc: Global, list: &[Rule]) -> Result<Vec<u64>, Memory>
     Ok(gates)
 }
 
-/// The gates that are demanded at settings: those of the rules, and where the settings say that jumps carry their targets, the gate that
-/// tells it.
+/// The gates that are demanded at settings: those of the rules and, if the settings say that jumps carry their targets
+/// (`target`), the gate for that.
 fn wanted(alloc: Global, list: &[Rule], target: bool, tv: u64) -> Result<Vec<u64>, Memory>
     ensures { IfOk result (λ want. want.items ≡ map gate_of list.now ++ cond target (tv ∷ []) []) }
 {
@@ -49,9 +49,10 @@ fn wanted(alloc: Global, list: &[Rule], target: bool, tv: u64) -> Result<Vec<u64
     Ok(want)
 }
 
-/// What a certificate of a file has to show at some settings: its 27 obligations, and that jumps carry their targets where the settings say so.
+/// What a certificate of a file has to show at given settings: its 27 obligations and, if the settings say so, that
+/// jumps carry their targets.
 ///
-/// Errors: `Mixed` and `AtomsOver64`, as `ctl_atoms::atoms` tells them; `Memory`.
+/// Errors: `Mixed` and `AtomsOver64`, as `ctl_atoms::atoms` reports them; `Memory`.
 #[tactic(auto, using(crate::proofs::Wanted::demanded))]
 pub fn demands(
     alloc: Global,

@@ -1,4 +1,4 @@
-//! A certificate of a file that the check accepts, and the check of a certificate of a file.
+//! Writes a certificate of a file that the check accepts, and checks a certificate of a file.
 ghost use Rattle.std.specs.Prelude.{◌≡◌, IfErr, IfOk, OnOk};
 ghost use Rattle.dp_signals.specs.PipeTable.{pipe_rows};
 ghost use Rattle.hcl_types.specs.Tables.{IsBound, IsOrderOf};
@@ -40,8 +40,8 @@ fn demands_of(
     }
 }
 
-/// A certificate of a file that meets its obligations at these settings, as those do that `control_check::check_pipe`
-/// answers with a Yes.
+/// A certificate of a file that meets its obligations at these settings, as a file does whose verdict from
+/// `control_check::check_pipe` is yes.
 #[tactic(auto, using(crate::proofs::Shown::has_atoms))]
 pub fn certify(
     alloc: Global,
@@ -62,7 +62,7 @@ pub fn certify(
     }
 }
 
-/// Checks a text as a certificate of a design with control values, at the settings that the text states. Gives these
+/// Checks a text as a certificate of a design with control values, at the settings that the text states. Returns these
 /// settings.
 ///
 /// Errors: `Cert` with the first fault of the text; `Memory`.
@@ -96,7 +96,7 @@ pub fn recheck_file(
     }
 }
 
-/// The line that tells an accepted certificate with its settings.
+/// The line that reports an accepted certificate, with its settings.
 #[tactic(auto, using(crate::proofs::Shown::yes_long, crate::proofs::Shown::holds_is), unfolding(crate::specs::Files::holds_line))]
 pub fn holds_line(alloc: Global, settings: &Settings) -> Result<Vec<u8>, Memory>
     ensures { IfOk result (λ text. text.items ≡ spec.holds_line settings.now) }

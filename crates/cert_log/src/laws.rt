@@ -2,24 +2,24 @@
 ghost use Rattle.cert_log.specs.DesignDemands.{CertifiedFilesHold, CertifiedFilesRefine, DemandsAreExact};
 ghost use Rattle.cert_log.specs.Files.{CertificatesAreKept};
 
-/// What is demanded of a file at settings is true at every pattern of bits exactly where the file meets its obligations at
-/// them. So `write` has a certificate of each file that meets them.
+/// The demands of a file at settings are true at every pattern of bits exactly if the file meets its obligations at
+/// these settings. So `write` has a certificate of each file that meets them.
 pub fn law_of_demands()
     ensures { DemandsAreExact }
 {}
 
-/// Where a text is a certificate of what is demanded of a file at settings, the file meets its obligations at these settings.
+/// If a text is a certificate of the demands of a file at settings, the file meets its obligations at these settings.
 pub fn law_of_certified_files()
     ensures { CertifiedFilesHold }
 {}
 
-/// So its pipelined machine refines the run of instructions.
+/// So the pipelined machine of a certified file refines the run of instructions.
 pub fn law_of_certified_refinement()
     ensures { CertifiedFilesRefine }
 {}
 
-/// A certificate of a design is of one list of settings. Checked over the same design it can be refused only because of the
-/// gates of the net.
+/// A certificate of a design is for one list of settings. If it is checked for the same design, it can be refused only
+/// because of the gates of the net.
 pub fn law_of_kept_certificates()
     ensures { CertificatesAreKept }
 {}

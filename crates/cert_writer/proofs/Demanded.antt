@@ -1,4 +1,4 @@
--- What is demanded, and its certificate.
+-- The demands, and their certificate.
 use Rattle.std.proofs.Common.{◌≡◌, ⊎_elim, ℕ, ◌+◌, ◌<◌, ◌≤◌, Bool, true, List, ◌++◌, length, get_or, slice_get, Some, sym, ap, ◌∙◌, append_assoc, subst, arith}
 use Rattle.std.proofs.lemmas.Bool.{cases_lt}
 use Rattle.std.proofs.lemmas.Option.{get_or_from_slice_get, slice_get-get_or, slice_get_within}
@@ -38,7 +38,7 @@ open_at g order ranks s dias k bits inside vars o d h f =
           ∙ f.fails;
     }
 
--- so far each demanded gate is true at every pattern
+-- each demanded gate so far is true at every pattern
 pub record AreTrueTo (g : Demands) (n : ℕ) : Type 0 where
   pub each : (k : ℕ) → k < n → (w : List Bool) → length w ≡ g.net.vars → truth g.net (get_or g.want k 0) w ≡ true
 
@@ -66,7 +66,7 @@ pub head_put : (s : Settings) (old middle new line : List ℕ) → line ≡ pipe
 unfolding spec.head_text
 head_put s old middle new line e f g = g ∙ (λ i. f i ++ e i) ∙ append_assoc old first_line (pipe_yes s)
 
--- each demanded gate has the term of truth
+-- each demanded gate has term 1, truth
 pub want_one : (g : Demands) (ranks : List ℕ) (terms : List TermDef) (ts : List ℕ) → AreOrdered ranks terms → length ranks ≡ g.net.vars → AreInside g → AreDemandsTrue g → AreGateTerms g.net (length ranks) terms ts (length g.net.gates) →
     (k w : ℕ) → slice_get g.want k ≡ Some w → slice_get ts w ≡ Some 1
 want_one g ranks terms ts o vars inside shut all k w is =

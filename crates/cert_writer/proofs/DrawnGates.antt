@@ -39,7 +39,7 @@ are_sources order ranks to vars o size e = subst (AreSources vars) (sym e) (reco
 pub whole : (order ranks : List ℕ) (to : List Replacement) (vars : ℕ) → IsVariableOrder order ranks → length order ≡ vars → to ≡ map source.Var ranks → length to ≡ vars
 whole order ranks to vars o size e = ap length e ∙ length-map ranks source.Var ∙ o.size ∙ size
 
--- the valuation behind that of the copy is the pattern itself
+-- the valuation of the net from which that of the copy comes is the pattern itself
 behind_places : (order ranks : List ℕ) → IsVariableOrder order ranks → (w : List Bool) → length w ≡ length order → behind (map source.Var ranks) (places_of order w) ≡ w
 behind_places order ranks o w size =
     same_lists (behind (map source.Var ranks) (places_of order w)) w
@@ -56,7 +56,7 @@ behind_places order ranks o w size =
         ∙ ap (λ n. get_or w n false) (o.forth v h)
         ∙ get_or_default w v false d (omega (arith, h, size))
 
--- so far the gates of the copy have diagrams
+-- the gates of the copy so far have diagrams
 pub record AreDrawn (copy : Gates) (gates : List ℕ) (s : Diagrams) (built : KnownGates) (dias : List Dia) (i : ℕ) : Type 0 where
   pub vars : copy.vars ≡ s.vars
   pub known : AreKnown s copy built

@@ -114,7 +114,7 @@ other_term n w dias i t g d h is fits term = record {
   plain = λ x e. subst (MatchesPlainly w.terms t) (same_Some g x (sym is ∙ e)) fits;
 }
 
--- the same behind more terms
+-- the same after more terms
 pub drawn_stays : (n : Gates) (a b : TermTable) (dias : List Dia) → ExtendsTerms a b → IsDrawn n a.order a.store dias → IsDrawn n b.order b.store dias
 drawn_stays n a b dias g d = subst (λ (s : Diagrams). IsDrawn n b.order s dias) (sym g.store) (subst (λ (o : List ℕ). IsDrawn n o a.store dias) (sym g.order) d)
 

@@ -80,7 +80,7 @@ same_bits false false f = refl
 same_bits true false f = absurd (f true≢false)
 same_bits false true f = absurd (f false≢true)
 
--- where the truth doesn't depend on a variable, its bit may be another
+-- if the truth doesn't depend on a variable, its bit may change
 set_kept : (s : Diagrams) (d : Dia) (y : ℕ) → (Depends s d y → ⊥) → (b : Bool) (v : List Bool) → length v ≡ s.vars → truth_of s d (set v y b) ≡ truth_of s d v
 set_kept s d y none b v size = both b (get_or v y false) ∙ ap (truth_of s d) (set-get_or v y false)
   where
@@ -101,7 +101,7 @@ choice_value s d low high x c v size = by (get_or v x false) refl
     by true e = ap (truth_of s d) (sym (set-get_or v x false) ∙ ap (set v x) e) ∙ sym (c.high_is v size)
     by false e = ap (truth_of s d) (sym (set-get_or v x false) ∙ ap (set v x) e) ∙ sym (c.low_is v size)
 
--- a part depends on later variables only
+-- a part depends only on later variables
 part_free : (s : Diagrams) (d : Dia) (x : ℕ) (c : Bool) (p : Dia) → ((y : ℕ) → y < x → Depends s d y → ⊥) → ((v : List Bool) → length v ≡ s.vars → truth_of s p v ≡ truth_of s d (set v x c)) →
     (y : ℕ) → y ≤ x → (b : Bool) (v : List Bool) → length v ≡ s.vars → truth_of s p (set v y b) ≡ truth_of s p v
 part_free s d x c p first is y h b v size = by (cases_eq y x)
@@ -130,7 +130,7 @@ low_least s d low high x c = part_least s d x false low c.first c.low_is
 pub high_least : (s : Diagrams) (d low high : Dia) (x : ℕ) → IsChoice s d x low high → (y : ℕ) → y < x + 1 → Depends s high y → ⊥
 high_least s d low high x c = part_least s d x true high c.first c.high_is
 
--- the variable of a choice isn't before the least
+-- the variable of a choice isn't before the least one
 pub falls : (s : Diagrams) (d low high : Dia) (x least : ℕ) → IsChoice s d x low high → ((y : ℕ) → y < least → Depends s d y → ⊥) → (least ≤ x) × (x < s.vars)
 falls s d low high x least c none = (⊎_elim (λ less. absurd (none x less c.depends)) (λ more. more) (cases_lt x least), c.variable)
 
@@ -155,7 +155,7 @@ zero_is s order terms d vars always = record { within = omega arith; is = λ w s
 pub one_is : (s : Diagrams) (order : List ℕ) (terms : List TermDef) (d : Dia) → s.vars ≡ length order → Always s d true → IsTermOf s order terms d 1
 one_is s order terms d vars always = record { within = omega arith; is = λ w size. value_one terms w ∙ sym (always (places_of order w) (places_length order w ∙ sym vars)) }
 
--- ---- one term more
+-- ---- one more term
 
 slice_left : {A : Type 0} (xs ys : List A) (i : ℕ) → i < length xs → slice_get (xs ++ ys) i ≡ slice_get xs i
 slice_left {A = A} xs ys i h = by (slice_get_cases xs i).1
@@ -202,7 +202,7 @@ term_kept s order terms more d t i = record {
   is = λ w size. value_kept terms more t w i.within ∙ i.is w size;
 }
 
--- ---- what is written
+-- ---- the terms written so far
 
 pub goes_self : (w : TermTable) → ExtendsTerms w w
 goes_self w = record { store = refl; order = refl; ranks = refl; more = omega arith; terms = take_all (length w.terms) w.terms (omega arith) }
@@ -322,7 +322,7 @@ high_call w v d low high x least t i g c none most =
     let e : IsChoice v.store d x low high = choice_stays w v d low high x g c in
     (omega (arith, below, within, vars, most, ap length g.order), (e.high_in, high_least v.store d low high x e))
 
--- the term behind those of both parts
+-- the term after those of both parts
 written_as : (w : TermTable) → IsTermTable w → IsTermTable (record { store = w.store; order = w.order; ranks = w.ranks; terms = w.terms; found = w.found })
 written_as w i = record { vars = i.vars; small = i.small; order = i.order; ordered = i.ordered; few = i.few; found = i.found }
 

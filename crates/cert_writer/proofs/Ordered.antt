@@ -48,7 +48,7 @@ module _ (ranks : List ℕ) (terms : List TermDef) (o : AreOrdered ranks terms) 
       cert_value terms t w ≡ cond (get_or w m.var false) (cert_value terms m.high w) (cert_value terms m.low w)
   value_is t k m e is w = ap (λ n. cert_value terms n w) e ∙ value_made terms are_made k m is w
 
-  -- a term is free of the variables with lesser ranks
+  -- a term is free of the variables with smaller ranks
   free_below : (n t y : ℕ) (b : Bool) (w : List Bool) → t < n → t < length terms + 2 → get_or ranks y 0 < rank_of ranks terms t → cert_value terms t (set w y b) ≡ cert_value terms t w
   free_below zero t y b w less h early = absurd (omega (arith, less))
   free_below (suc n) t y b w less h early = by (kind_of terms t h) (λ s. free_below n s y b w)
@@ -94,7 +94,7 @@ module _ (ranks : List ℕ) (terms : List TermDef) (o : AreOrdered ranks terms) 
       by false =
           ap (λ n. cert_value terms n w) (part_is false) ∙ sym (free m.low v false w (let x = o.low k m is in omega (arith, h, e, x)) low) ∙ sym (whole false)
 
-  -- where a variable has its value, the value of a term is that of its part
+  -- at a variable's value, the value of a term is that of its part
   pub part_set : AreRanks ranks → (t v : ℕ) (b : Bool) (w : List Bool) → t < length terms + 2 → v < length ranks → length w ≡ length ranks →
       get_or ranks v 0 ≤ rank_of ranks terms t → cert_value terms (part terms v b t) w ≡ cert_value terms t (set w v b)
   part_set r t v b w h inside size first = by (kind_of terms t h)

@@ -5,7 +5,7 @@ use Rattle.std.specs.List.{range_with_len}
 use Rattle.std.proofs.lemmas.List.FromFn.{length-range_with_len, get_or-range_with_len}
 use Rattle.cert_writer.specs.Nodes.{IsVariableOrder}
 
--- so far two lists undo each other
+-- so far two lists are inverse to each other
 pub record AreInverse (order ranks : List ℕ) (n : ℕ) : Type 0 where
   pub there : (x : ℕ) → x < n → get_or order x 0 < length order
   pub back : (x : ℕ) → x < n → get_or ranks (get_or order x 0) 0 ≡ x
@@ -41,7 +41,7 @@ inverse_all order ranks i size h a = record {
   forth = λ x l. a.forth x (omega (arith, h, l));
 }
 
--- ---- the order of the numbers
+-- ---- the order by number
 
 pub numbers_size : (order : List ℕ) (n : ℕ) → order ≡ range_with_len 0 n → length order ≡ n
 numbers_size order n e = ap length e ∙ length-range_with_len 0 n

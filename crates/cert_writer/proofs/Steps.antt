@@ -1,4 +1,4 @@
--- One claim more, and what its line has to be.
+-- One more claim, and what its line requires.
 use Rattle.std.proofs.Common.{◌≡◌, ◌⊎◌, inl, inr, ⊎_elim, ℕ, zero, suc, ◌+◌, ◌-◌, ◌<◌, ◌≤◌, Bool, true, false, not, ◌&&◌, ◌||◌, ◌==◌, cond, ltb, List, [], ◌∷◌, ◌++◌, length, map, take, get_or, slice_get, Option, Some, None, refl, sym, ap, ◌∙◌, subst, arith}
 use Rattle.std.proofs.Math.ListN.{set}
 use Rattle.std.proofs.lemmas.Bool.{and_from, or_left, or_right, cases_lt, eq-eqb, lt-ltb, false≢true}
@@ -17,7 +17,7 @@ use Rattle.cert_writer.specs.Proofs.{AreProved, IsProved, KeepsClaims, HasClaim,
 use Rattle.cert_writer.specs.Terms.{AreOrdered, AreRanks, IsAnd, IsFirst, IsNot, rank_by, rank_of, variable_by, variable_of}
 use Rattle.cert_writer.proofs.Ordered.{Kinds, falsehood, truth, made, constant, free, kind_of, part_set, rank_from, rank_is}
 
--- ---- one claim more
+-- ---- one more claim
 
 pub proved_none : (vars : ℕ) (terms : List TermDef) (steps : List CertLine) → steps ≡ [] → AreProved vars terms steps
 proved_none vars terms steps e = record { each = λ k line at. absurd (none-some line (sym (slice_get_none k) ∙ ap (λ (xs : List CertLine). slice_get xs k) (sym e) ∙ at)) }
@@ -88,7 +88,7 @@ variable_rank ranks terms o t h two = by (kind_of terms t h)
       ap (λ n. get_or ranks n 0) (ap variable_by at) ∙ sym (rank_is ranks terms o t m at),
     )
 
--- terms 0 and 1 stand behind all variables
+-- terms 0 and 1 come after all variables
 pub rank_none : (ranks : List ℕ) (terms : List TermDef) (t : ℕ) → t < 2 → rank_of ranks terms t ≡ length ranks
 rank_none ranks terms t small = ap (λ (x : Bool). rank_by ranks (cond x None (slice_get terms (t - 2)))) (lt-ltb t 2 small)
 
@@ -130,7 +130,7 @@ part_is terms v b t m at = ap (λ (q : Option TermDef). part_by q v b t) at
 part_none : (terms : List TermDef) (v : ℕ) (b : Bool) (t : ℕ) → t < 2 → part terms v b t ≡ t
 part_none terms v b t small = ap (λ (x : Bool). part_by (cond x None (slice_get terms (t - 2))) v b t) (lt-ltb t 2 small)
 
--- a part is no later term, and an earlier one if the term has the variable
+-- a part isn't a later term, and it is an earlier one if the term has the variable
 pub part_most : (ranks : List ℕ) (terms : List TermDef) → AreOrdered ranks terms → (v : ℕ) (b : Bool) (t : ℕ) → t < length terms + 2 → part terms v b t ≤ t
 part_most ranks terms o v b t h = by (kind_of terms t h)
   where
@@ -170,9 +170,9 @@ parts_less ranks terms o r a b v x ha hb first = ⊎_elim
     (λ e. (let l = part_less ranks terms o r v x b hb first.within e in let m = part_most ranks terms o v x a ha in omega (arith, l, m)))
     first.one
 
--- ---- what two terms together are, at once or by cases
+-- ---- conjunctions of two terms, evident ones and by cases
 
--- if it isn't plain, one of the two terms was made
+-- unless the conjunction is evident, one of the two terms was made
 pub and_open : (ranks : List ℕ) (terms : List TermDef) → AreOrdered ranks terms → (a b c : ℕ) → IsAnd ranks terms a b c → is_plain_and a b c ≡ false → (2 ≤ a) ⊎ (2 ≤ b)
 and_open ranks terms o a b c i large = by (cases_lt a 2) (cases_lt b 2)
   where
@@ -230,7 +230,7 @@ not_open ranks terms o a c i large = ⊎_elim (λ x. absurd (false≢true (sym l
     small : a < 2 → ((a ≡ 0) × (c ≡ 1)) ⊎ ((a ≡ 1) × (c ≡ 0))
     small h = ⊎_elim (λ x. (let e : a ≡ 0 = omega (arith, x) in inl (e, zero_is e))) (λ x. (let e : a ≡ 1 = omega (arith, x, h) in inr (e, one_is e))) (cases_lt a 1)
 
--- a variable with the first rank of two terms has no later rank than what they are together
+-- a variable with the first rank of two terms has no later rank than their conjunction
 and_first : (ranks : List ℕ) (terms : List TermDef) → AreOrdered ranks terms → (a b c v : ℕ) → AreRanks ranks → IsAnd ranks terms a b c → IsFirst ranks terms a b v →
     get_or ranks v 0 ≤ rank_of ranks terms c
 and_first ranks terms o a b c v r i first =
@@ -351,7 +351,7 @@ and_call s a b c v x left right both r o i first l m n =
     (subst (λ y. IsAnd s.ranks s.terms y (part s.terms v x b) (part s.terms v x c)) (sym l) (and_parts s.ranks s.terms o r a b c v x i first))) in
     (omega (arith, less, l, m), (r, (o, is)))
 
--- the same, behind more claims
+-- the same, after more claims
 pub and_next : (s t : Proof) (a b c v : ℕ) (x : Bool) (left right both : ℕ) → KeepsClaims s t → AreRanks s.ranks → AreOrdered s.ranks s.terms → IsAnd s.ranks s.terms a b c → IsFirst s.ranks s.terms a b v →
     left ≡ part t.terms v x a → right ≡ part t.terms v x b → both ≡ part t.terms v x c →
     (left + right < a + b) × (AreRanks t.ranks × (AreOrdered t.ranks t.terms × IsAnd t.ranks t.terms left right both))
@@ -363,7 +363,7 @@ and_next s t a b c v x left right both k r o i first l m n =
     (subst (λ (l : List ℕ). IsFirst l t.terms a b v) (sym k.ranks) (subst (λ (m : List TermDef). IsFirst s.ranks m a b v) (sym k.terms) first))
     l m n
 
--- the line by cases, behind the claims of both
+-- the line by cases, after the claims for both
 pub cases_next : (s t u : Proof) (a b c v low high : ℕ) (al bl cl ah bh ch : ℕ) → KeepsClaims s t → KeepsClaims t u → IsAnd s.ranks s.terms a b c → IsFirst s.ranks s.terms a b v →
     al ≡ part s.terms v false a → bl ≡ part s.terms v false b → cl ≡ part s.terms v false c → ah ≡ part t.terms v true a → bh ≡ part t.terms v true b → ch ≡ part t.terms v true c →
     HasClaim t (claim.And al bl cl) low → HasClaim u (claim.And ah bh ch) high → IsProved (length u.ranks) u.terms u.steps (AndCases a b c v low high)

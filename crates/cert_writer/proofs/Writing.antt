@@ -1,4 +1,4 @@
--- One right line more.
+-- One more right line.
 use Rattle.std.proofs.Common.{◌≡◌, ℕ, ◌+◌, ◌<◌, ◌≤◌, true, not, ◌&&◌, cond, ltb, List, [], ◌∷◌, ◌++◌, length, map, take, get_or, slice_get, Option, Some, None, refl, sym, ap, ◌∙◌, subst, append_assoc, arith}
 use Rattle.std.proofs.lemmas.Bool.{and_from, eq-eqb, false≢true, lt-ltb}
 use Rattle.std.proofs.lemmas.List.{append-nil, get_or_default, get_or-take, length-take-le, map_more, take_all, take_more}
@@ -122,7 +122,7 @@ steps_start g text terms steps w = w
 pub steps_end : (g : Demands) (text : List ℕ) (terms : List TermDef) (steps : List CertLine) (i : ℕ) → length steps ≤ i → IsCertificatePrefix g text (facts_with terms (take i steps) []) → IsCertificatePrefix g text (facts_with terms steps [])
 steps_end g text terms steps i h w = subst (λ (xs : List CertLine). IsCertificatePrefix g text (facts_with terms xs [])) (take_all i steps h) w
 
--- a line that makes a claim fits every net, and leaves its claim
+-- a line that makes a claim matches every net, and leaves its claim
 claim_fits : (net : Gates) (k : CheckerFacts) (l : CertLine) → is_claim_line l ≡ true → gate_matches net k l ≡ true
 claim_fits net k (line.Term v l h) e = absurd (false≢true e)
 claim_fits net k (line.And a b c) e = refl

@@ -1,4 +1,4 @@
--- Terms that stand for diagrams, whose variables have another order.
+-- Terms that represent diagrams; the variables of the diagrams have another order.
 use Rattle.std.specs.Prelude.{ℕ, ◌≡◌, ◌+◌, ◌^◌, ◌<◌, ◌≤◌, Bool, false, List, length, map, take, get_or}
 use Rattle.nets.specs.Nets.{Gates, truth}
 use Rattle.bdd_core.specs.Diagrams.{Diagrams}
@@ -25,7 +25,7 @@ pub record IsTermOf (s : Diagrams) (order : List ℕ) (terms : List TermDef) (d 
   pub within : t < length terms + 2
   pub is : (w : List Bool) → length w ≡ length order → cert_value terms t w ≡ truth_of s d (places_of order w)
 
--- the terms so far, and by their numbers the diagrams that have one
+-- the terms so far, and which diagrams have one
 pub record TermTable : Type 0 where
   pub store : Diagrams
   pub order : List ℕ

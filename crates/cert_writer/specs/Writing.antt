@@ -1,4 +1,4 @@
--- What is written so far: the text of right lines, and what they have made.
+-- The output so far: the text of right lines, and the facts that they make.
 use Rattle.std.specs.Prelude.{ℕ, ◌≡◌, ◌<◌, ◌+◌, Bool, List, [], ◌∷◌, ◌++◌, length, map, get_or, slice_get, cond, true, false, Some}
 use Rattle.std.specs.Fmt.{decimal}
 use Rattle.nets.specs.Nets.{Gates, truth}
@@ -15,12 +15,12 @@ use Rattle.cert_checker.specs.declared.line.CertLine.{CertLine}
 use Rattle.cert_checker.specs.declared.line.CertLine.TheVariants as line
 use Rattle.cert_writer.specs.Proofs.{HasClaim, Proof, claim_of}
 
--- numbers in decimal, each behind a blank
+-- numbers in decimal, each after a blank
 unfoldable pub spaced : List ℕ → List ℕ
 spaced [] = []
 spaced (n ∷ more) = 32 ∷ (decimal n ++ spaced more)
 
--- a text of right lines, which have made these facts
+-- a text of right lines, which make these facts
 pub record IsCertificatePrefix (g : Demands) (text : List ℕ) (facts : CheckerFacts) : Type 0 where
   pub lines : List CertLine
   pub goes_on : HasRightLines g text lines []
@@ -54,7 +54,7 @@ pub record AreGateTerms (n : Gates) (vars : ℕ) (terms : List TermDef) (ts : Li
   pub size : length ts ≡ count
   pub each : (i : ℕ) → i < count → IsGateTerm n vars terms i (get_or ts i 0)
 
--- a claim says of the terms of gates what a gate asks
+-- a claim says about the terms of gates what a gate requires
 abbrev pub MatchesBy : Proof → List ℕ → ℕ → ℕ → Gate → Type 0
 MatchesBy s gates t p (gate.Const b) = Unit {0}
 MatchesBy s gates t p (gate.Var v) = Unit {0}
@@ -66,7 +66,7 @@ pub record AreClaims (n : Gates) (s : Proof) (ts by : List ℕ) (count : ℕ) : 
   pub size : length by ≡ count
   pub each : (i : ℕ) → i < count → (g : Gate) → slice_get n.gates i ≡ Some g → MatchesBy s ts (get_or ts i 0) (get_or by i 0) g
 
--- for each gate of a net a term and a claim that fit
+-- for each gate of a net a term and a claim that match it
 pub record AreGates (net : Gates) (s : Proof) (gates claims : List ℕ) : Type 0 where
   pub size : length gates ≡ length net.gates
   pub claims_size : length claims ≡ length net.gates
@@ -81,7 +81,7 @@ gate_line (gate.Var v) t p = line.Gate t
 gate_line (gate.Not a) t p = line.GateBy t p
 gate_line (gate.And a b) t p = line.GateBy t p
 
--- what is demanded names gates of the net
+-- the demands name gates of the net
 abbrev pub AreInside : Demands → Type 0
 AreInside g = (k i : ℕ) → slice_get g.want k ≡ Some i → i < length g.net.gates
 

@@ -14,7 +14,7 @@ use std::alloc::Global;
 use std::marker::Model;
 use y86_base::Memory;
 
-/// Claims about terms that stand before them all, over ranks of the variables.
+/// Claims about terms that all precede the claims, over ranks of the variables.
 #[derive(Drop)]
 pub struct ClaimWriter<'a> {
     terms: &'a [TermDef],
@@ -35,13 +35,13 @@ impl<'a> Model for ClaimWriter<'a> {
     ghost invariant = { λ c. AreProved (length c.ranks.now) c.terms.now c.steps.items };
 }
 
-/// How many claims there may be, so that each number fits in 32 bits.
+/// The most claims that there may be, so that each number fits in 32 bits.
 const MOST: usize = 4_000_000_000;
 
-/// How many places there are for claims that are found again: an even number, since a claim has two places.
+/// The number of places in the cache of claims: even, because each claim has two places.
 const PLACES: usize = 4_194_304;
 
-/// The first place of a claim on two terms. Its second place is the neighbour: of 2n it is 2n + 1, and of that 2n.
+/// The first place of a claim about two terms. Its second place is the neighbour: 2n + 1 for 2n, and 2n for 2n + 1.
 fn place(a: u32, b: u32) -> usize {
     let left = (a as u64).wrapping_mul(11_400_714_819_323_198_485);
     let right = (b as u64).wrapping_mul(14_029_467_366_897_019_727);
@@ -50,7 +50,7 @@ fn place(a: u32, b: u32) -> usize {
 }
 
 impl<'a> ClaimWriter<'a> {
-    /// No claims yet. There will be no more than `most`.
+    /// A writer without claims. There will be no more than `most`.
     #[tactic(auto, using(crate::proofs::Steps::proved_none))]
     pub fn new(
         alloc: Global,
@@ -93,7 +93,7 @@ impl<'a> ClaimWriter<'a> {
         }
     }
 
-    /// The variable of a term, and 0 of term 0 or 1.
+    /// The variable of a term; 0 for terms 0 and 1.
     fn variable(&self, t: u32) -> u32
         ensures { result ≡ variable_of self.now.terms t }
     {
@@ -103,7 +103,7 @@ impl<'a> ClaimWriter<'a> {
         }
     }
 
-    /// The first variable of two terms of which one was made.
+    /// The first variable of two terms, at least one of which isn't a constant.
     #[tactic(auto, using(crate::proofs::Steps::first_left, crate::proofs::Steps::first_right))]
     fn first_variable(&self, a: u32, b: u32) -> u32
         requires ranks { AreRanks self.now.ranks }
@@ -120,14 +120,14 @@ impl<'a> ClaimWriter<'a> {
         }
     }
 
-    /// The part of a term where a variable is 0, or is 1.
+    /// The part of a term where a variable is 0, or (`high`) is 1.
     fn part_of(&self, var: u32, high: bool, t: u32) -> u32
         ensures { result ≡ spec.part self.now.terms var high t }
     {
         part(self.terms, var as u64, high, t as u64) as u32
     }
 
-    /// The claim at a place, if it is that two terms together are a third.
+    /// The claim at a place, if it says that a term is the conjunction of two others.
     fn and_at(&self, at: usize, a: u32, b: u32, c: u32) -> Option<u32>
         ensures { IfSome result (HasClaim self.now (claim.And a b c)) }
     {
@@ -157,7 +157,7 @@ impl<'a> ClaimWriter<'a> {
         }
     }
 
-    /// The claim that two terms together are a third, if it is remembered.
+    /// The claim that a term is the conjunction of two others, if it is cached.
     fn known_and(&self, a: u32, b: u32, c: u32) -> Option<u32>
         ensures { IfSome result (HasClaim self.now (claim.And a b c)) }
     {
@@ -168,7 +168,7 @@ impl<'a> ClaimWriter<'a> {
         }
     }
 
-    /// The claim at a place, if it is that a term is the negation of another.
+    /// The claim at a place, if it says that a term is the negation of another.
     fn not_at(&self, at: usize, a: u32, c: u32) -> Option<u32>
         ensures { IfSome result (HasClaim self.now (claim.Not a c)) }
     {
@@ -190,7 +190,7 @@ impl<'a> ClaimWriter<'a> {
         }
     }
 
-    /// The claim that a term is the negation of another, if it is remembered.
+    /// The claim that a term is the negation of another, if it is cached.
     fn known_not(&self, a: u32, c: u32) -> Option<u32>
         ensures { IfSome result (HasClaim self.now (claim.Not a c)) }
     {
@@ -201,7 +201,7 @@ impl<'a> ClaimWriter<'a> {
         }
     }
 
-    /// Remembers a claim, and the claim before it at its place at the other place.
+    /// Caches a claim at its first place. The claim that was there moves to the second place.
     fn remember(&mut self, a: u32, b: u32, p: u32)
         ensures { self.new ≡ self.old }
     {
@@ -213,7 +213,7 @@ impl<'a> ClaimWriter<'a> {
         }
     }
 
-    /// Puts a claim behind the others.
+    /// Appends a claim.
     #[tactic(auto, using(crate::proofs::Steps::proved_push, crate::proofs::Steps::keeps_push, crate::proofs::Steps::keeps_self, crate::proofs::Steps::makes_last))]
     fn push(&mut self, line: CertLine) -> Result<u32, Memory>
         requires { IsProved (length self.old.ranks) self.old.terms self.old.steps line }
@@ -230,7 +230,7 @@ impl<'a> ClaimWriter<'a> {
         }
     }
 
-    /// The claim that two terms together are a third, from the claims about their parts.
+    /// The claim that a term is the conjunction of two others, from the claims about their parts.
     #[tactic(auto, using(crate::proofs::Steps::and_open, crate::proofs::Steps::and_parts, crate::proofs::Steps::and_cases, crate::proofs::Steps::and_plain, crate::proofs::Steps::parts_less, crate::proofs::Steps::makes_kept, crate::proofs::Steps::keeps_more, crate::proofs::Steps::keeps_self))]
     pub fn and(&mut self, a: u32, b: u32, c: u32) -> Result<u32, Memory>
         requires ranks { AreRanks self.old.ranks }
@@ -306,7 +306,7 @@ impl<'a> ClaimWriter<'a> {
         Ok(p)
     }
 
-    /// The claim for a gate on the terms of the gates that it reads, if it reads any.
+    /// The claim for a gate about the terms of the gates that it reads, if it reads any.
     #[tactic(auto, using(crate::proofs::Claimed::not_asked, crate::proofs::Claimed::and_asked, crate::proofs::Claimed::not_fits, crate::proofs::Claimed::and_fits, crate::proofs::Claimed::constant_fits, crate::proofs::Claimed::variable_fits, crate::proofs::Steps::keeps_self))]
     fn gate_claim(&mut self, n: &Net, ts: &[u32], i: u64) -> Result<u32, Memory>
         requires ranks { AreRanks self.old.ranks }

@@ -15,7 +15,7 @@ pub struct DrawnNet {
     pub dias: Vec<Dia>,
 }
 
-/// The variables that stand in the places of a net's in the copy that is drawn.
+/// The variables that replace those of the net in the copy that is drawn.
 #[tactic(auto, using(crate::proofs::DrawnGates::sources_none, crate::proofs::DrawnGates::sources_more, crate::proofs::DrawnGates::sources_all))]
 fn sources(alloc: Global, ranks: &[u32]) -> Result<Vec<Replacement>, Memory>
     ensures { IfOk result (λ to. to.items ≡ map source.Var ranks.now) }
@@ -29,7 +29,7 @@ fn sources(alloc: Global, ranks: &[u32]) -> Result<Vec<Replacement>, Memory>
     Ok(to)
 }
 
-/// Puts a diagram behind others.
+/// Appends a diagram.
 fn push_dia(dias: &mut Vec<Dia>, d: Dia) -> Result<(), Memory>
     ensures { OnOk result (dias.new.items ≡ dias.old.items ++ d ∷ []) }
 {
@@ -41,7 +41,7 @@ fn push_dia(dias: &mut Vec<Dia>, d: Dia) -> Result<(), Memory>
 
 /// The diagrams of the gates of a net, with variable `order[x]` of the net as variable x.
 ///
-/// Errors: `Memory`, also where it takes more operations or nodes than a limit.
+/// Errors: `Memory`, also if it takes more operations or nodes than the limits allow.
 #[tactic(auto, using(crate::proofs::DrawnGates::are_sources, crate::proofs::DrawnGates::whole, crate::proofs::DrawnGates::drawn_none, crate::proofs::DrawnGates::drawn_more, crate::proofs::DrawnGates::drawn_all, crate::proofs::DrawnGates::gate_within))]
 pub fn draw(
     alloc: Global,

@@ -14,7 +14,7 @@ pub struct RankOrders {
     pub ranks: Vec<u32>,
 }
 
-/// Whether two lists undo each other.
+/// Whether two lists are inverse to each other.
 #[tactic(auto, using(crate::proofs::Orders::inverse_none, crate::proofs::Orders::inverse_more, crate::proofs::Orders::inverse_all))]
 fn are_inverse(order: &[u32], ranks: &[u32]) -> bool
     requires size { length ranks.now ≡ length order.now }
@@ -69,7 +69,7 @@ pub fn order_of(alloc: Global, vars: u32, weave: Weave) -> Result<RankOrders, Me
             None => {}
         }
     }
-    // the order of the numbers undoes itself
+    // the order by number is its own inverse
     let order = all_variables(alloc, vars)?;
     let ranks = all_variables(alloc, vars)?;
     Ok(RankOrders { order, ranks })

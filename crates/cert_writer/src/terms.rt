@@ -13,7 +13,8 @@ use std::alloc::Global;
 use std::marker::Model;
 use y86_base::Memory;
 
-/// The terms of some diagrams, over the variables of a net: variable `order[x]` is that of place x.
+/// The terms of some diagrams, over the variables of a net: variable `order[x]` of the net is variable x of the
+/// diagrams.
 #[derive(Drop)]
 pub struct TermWriter<'a> {
     store: &'a Store,
@@ -33,7 +34,7 @@ impl<'a> Model for TermWriter<'a> {
     ghost invariant = { λ t. IsTermTable (record { store = t.store.now; order = t.order.now; ranks = t.ranks.now; terms = t.terms.items; found = t.found.items }) };
 }
 
-/// How many terms there may be, so that each number fits in 32 bits.
+/// The most terms that there may be, so that each number fits in 32 bits.
 const MOST: usize = 4_000_000_000;
 
 /// The term of a constant.
@@ -43,7 +44,7 @@ fn constant(value: bool) -> u32
     if value { 1 } else { 0 }
 }
 
-/// Puts a number behind others.
+/// Appends a number.
 pub(crate) fn push_number(numbers: &mut Vec<u32>, n: u32) -> Result<(), Memory>
     ensures { OnOk result (numbers.new.items ≡ numbers.old.items ++ n ∷ []) }
 {
@@ -53,7 +54,7 @@ pub(crate) fn push_number(numbers: &mut Vec<u32>, n: u32) -> Result<(), Memory>
     }
 }
 
-/// How many places there are for terms that are found again.
+/// The number of places in the cache of terms.
 fn room(dias: &[Dia]) -> u64 {
     let mut most = 0;
     for i in 0..dias.len() {
@@ -66,7 +67,7 @@ fn room(dias: &[Dia]) -> u64 {
 }
 
 impl<'a> TermWriter<'a> {
-    /// No terms yet.
+    /// A writer without terms.
     #[tactic(auto, using(crate::proofs::Nodes::written_none))]
     pub fn new(
         alloc: Global,
@@ -127,7 +128,7 @@ impl<'a> TermWriter<'a> {
         Some(t)
     }
 
-    /// Remembers the term of a diagram, if there is a place for it.
+    /// Caches the term of a diagram, if there is a place for it.
     #[tactic(auto, using(crate::proofs::Nodes::written_found))]
     fn remember(&mut self, d: Dia, t: u32)
         requires { IsTermOf self.old.store self.old.order self.old.terms d t }
@@ -139,7 +140,7 @@ impl<'a> TermWriter<'a> {
         }
     }
 
-    /// What stands at the root of a diagram; and what holds of the terms.
+    /// The node at the root of a diagram; and the invariant of the terms.
     fn node(&self, d: Dia) -> Node
         requires { IsDia self.now.store d }
         ensures node { IsNode self.now.store d result }
@@ -148,7 +149,7 @@ impl<'a> TermWriter<'a> {
         self.store.node(d)
     }
 
-    /// The variable of the net at a place.
+    /// The variable of the net for variable `x` of the diagrams.
     fn variable(&self, x: u32) -> u32
         requires { x < length self.now.order }
         ensures variable { result ≡ get_or self.now.order x 0 }
@@ -157,7 +158,7 @@ impl<'a> TermWriter<'a> {
         self.order[x as usize]
     }
 
-    /// Puts a term behind the others.
+    /// Appends a term.
     #[tactic(auto, using(crate::proofs::Nodes::written_push, crate::proofs::Nodes::goes_self, crate::proofs::Nodes::made_goes))]
     fn push(&mut self, made: TermDef) -> Result<u32, Memory>
         requires { AreOrdered self.old.ranks (self.old.terms ++ made ∷ []) }
@@ -203,7 +204,7 @@ impl<'a> TermWriter<'a> {
         }
     }
 
-    /// What holds of the terms.
+    /// The invariant of the terms.
     fn holds(&self)
         ensures { IsTermTable self.now }
     {

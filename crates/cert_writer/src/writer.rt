@@ -1,4 +1,4 @@
-//! A certificate of what is demanded.
+//! Writes a certificate of the demands.
 ghost use Rattle.std.specs.Prelude.{◌≡◌, ◌++◌, ◌<◌, true, false, length, get_or, MatchOption, IfOk, IfSome, OnOk, None};
 ghost use Rattle.cert_checker.specs.Certificates.{AreSeven, CertOk, head_text};
 ghost use Rattle.bdd_core.specs.Meaning.{Always, IsDia, IsLeastFalsifying};
@@ -18,7 +18,7 @@ use std::alloc::Global;
 use verdict_text::pipe_acceptance;
 use y86_base::{Memory, put};
 
-/// A valuation of the diagrams' variables at which a demanded gate is false, if any.
+/// A valuation of the diagrams' variables at which a demanded gate is false, if there is one.
 fn counter(g: &Demands, drawn: &DrawnNet, k: usize) -> Result<Option<Valuation>, Memory>
     requires inside { get_or g.now.want k 0 < length drawn.now.dias.items }
     requires want { k < length g.now.want }
@@ -66,14 +66,14 @@ fn put_head(alloc: Global, out: &mut Vec<u8>, settings: Settings) -> Result<(), 
 /// How large a certificate may become in one order of variables.
 #[derive(Clone, Copy)]
 struct Limits {
-    /// Of operations on diagrams.
+    /// Operations on diagrams.
     steps: u64,
     terms: u64,
     claims: usize,
     bytes: usize,
 }
 
-/// Most designs stay within these limits where the registers follow one another.
+/// Most designs stay within these limits if the registers follow one another.
 const FEW: Limits = Limits {
     steps: 700_000,
     terms: 300_000,
@@ -81,7 +81,7 @@ const FEW: Limits = Limits {
     bytes: SHORT_BYTES,
 };
 
-/// Most designs stay within these limits where eight registers stand side by side.
+/// Most designs stay within these limits if eight registers are interleaved.
 const SOME: Limits = Limits {
     steps: 1_200_000,
     terms: 500_000,
@@ -112,10 +112,10 @@ const NO_LIMITS: Limits = Limits {
     bytes: usize::MAX,
 };
 
-/// How many bytes a short certificate has at most.
+/// The most bytes of a short certificate.
 const SHORT_BYTES: usize = 60_000_000;
 
-/// The orders that are tried and their limits, from what takes little time to what takes long.
+/// The orders that are tried and their limits, from the fastest attempt to the slowest.
 const ATTEMPTS: [(Weave, Limits); 12] = [
     (Weave::Apart, FEW),
     (Weave::Fours, FEW),
@@ -133,7 +133,7 @@ const ATTEMPTS: [(Weave, Limits); 12] = [
 
 /// The text of a certificate, from the terms of the gates.
 ///
-/// Errors: `Memory`, also where there are more claims or bytes than the limits allow.
+/// Errors: `Memory`, also if there are more claims or bytes than the limits allow.
 fn text_of(
     alloc: Global,
     g: &Demands,
@@ -161,9 +161,9 @@ fn text_of(
     Ok(out)
 }
 
-/// A certificate in one order of variables; `None` where a demanded gate is false at some pattern of bits.
+/// A certificate in one order of variables; `None` if a demanded gate is false at some pattern of bits.
 ///
-/// Errors: `Memory`, also where it would be larger than the limits allow.
+/// Errors: `Memory`, also if it would be larger than the limits allow.
 fn write_in(
     alloc: Global,
     g: &Demands,
@@ -187,7 +187,7 @@ fn write_in(
     Ok(Some(text))
 }
 
-/// A certificate of what is demanded; `None` where a demanded gate is false at some pattern of bits.
+/// A certificate of the demands; `None` if a demanded gate is false at some pattern of bits.
 ///
 /// Which order of variables makes it short depends on the registers that the file compares, so several are tried.
 pub fn write(alloc: Global, g: &Demands) -> Result<Option<Vec<u8>>, Memory>

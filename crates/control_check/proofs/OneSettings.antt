@@ -1,4 +1,4 @@
--- A file has one list of settings at most, and isn't both accepted and rejected.
+-- A file has at most one list of settings, and isn't both accepted and rejected.
 use Rattle.std.proofs.Common.{◌≡◌, ℕ, ◌<◌, Bool, true, false, List, refl, sym, ap, ◌∙◌, subst, length, get_or}
 use Rattle.std.proofs.lemmas.Bool.{false≢true}
 use Rattle.std.proofs.lemmas.List.{ext_get_or}
@@ -30,7 +30,7 @@ decided_alike true false h k = absurd (k.no refl (h.yes refl))
 decided_alike false true h k = absurd (h.no refl (k.yes refl))
 decided_alike false false h k = refl
 
--- whether a jump carries its target is no matter of the settings
+-- whether a jump carries its target doesn't depend on the settings
 carries_alike : (v : Variant) (s s' : Settings) (c : Fields) (α : Assignment) (cv : ℕ → Leaf) → alu_passes_target v s c α cv ≡ alu_passes_target v s' c α cv
 unfolding alu_passes_target flow_of
 carries_alike v s s' c α cv = refl
@@ -43,7 +43,7 @@ module _ (v : Variant) (terms : List Term) (ids : List ℕ) (o : IsOrderOf pipe_
     same_atoms : k.atoms ≡ h.atoms
     same_atoms = one_list terms ids o k.atoms h.atoms k.are h.are
 
-    -- truths that decide, in one list of settings and the other, whether a formula holds everywhere or somewhere
+    -- truths that decide, in two lists of settings, whether a formula holds everywhere or somewhere
     always_alike : (a b : Bool) (f f' : List Atom → ValuationTruth) → ((them : List Atom) (c : Fields) (α : Assignment) (cv : ℕ → Leaf) → f them c α cv ≡ f' them c α cv) →
         Decides a (Everywhere v h.atoms (PipeControls terms) (f h.atoms)) → Decides b (Everywhere v k.atoms (PipeControls terms) (f' k.atoms)) → a ≡ b
     always_alike a b f f' same p q =

@@ -1,4 +1,4 @@
--- From what is decided of PIPE's formulas and rules to what a verdict says of the design.
+-- From the decisions on PIPE's formulas and rules to the meaning of a verdict on the design.
 use Rattle.std.proofs.Common.{◌≡◌, ℕ, zero, suc, ◌+◌, ◌-◌, ◌<◌, ◌≤◌, inl, inr, Bool, true, false, not, List, [], ◌∷◌, length, get_or, slice_get, Some, None, refl, sym, ap, ◌∙◌, subst, arith}
 use Rattle.std.proofs.lemmas.Bool.{false≢true, cases_lt}
 use Rattle.std.proofs.lemmas.List.{get_or_past}
@@ -33,7 +33,7 @@ use Rattle.ctl_verdicts.proofs.AtomBits.{AreApart, apart_added, bits_are, length
 
 module _ (v : Variant) (terms : List Term) (atoms : List Atom) (apart : AreApart atoms) (exists : (field : ℕ → ℕ) (α : Assignment) → HasControls pipe_rows terms field α)
     (net : Gates) (vars : net.vars ≡ bit_count + length atoms) where
-  -- a formula that is true of every pattern of bits is true of every valuation
+  -- a formula that is true at every pattern of bits is true at every valuation
   pub everywhere : (g : ℕ) (f : ValuationTruth) → IsDesignGate terms atoms net g f → IsAlwaysTrue net g → Everywhere v atoms (PipeControls terms) f
   everywhere g f h always c α cv range controls =
       let w : List Bool = pattern_of c (truth_bits α atoms) in
@@ -43,7 +43,7 @@ module _ (v : Variant) (terms : List Term) (atoms : List Atom) (apart : AreApart
       let told = h.is w α cv are (subst (λ x. PipeControls terms x α cv) (sym law.spells) controls) in
       subst (λ x. f x α cv ≡ true) law.spells (sym told ∙ always w size)
 
-  -- a pattern of which it is false is a valuation of which it is
+  -- a pattern at which it is false is a valuation at which it is false
   pub somewhere : (g : ℕ) (f : ValuationTruth) → IsDesignGate terms atoms net g f → (w : List Bool) → truth net g w ≡ false →
       (α : Assignment) × (cv : ℕ → Leaf) × AtomsAre atoms bit_count w α × PipeControls terms (fields_of w) α cv × (f (fields_of w) α cv ≡ false)
   somewhere g f h w e =
@@ -59,7 +59,7 @@ module _ (v : Variant) (terms : List Term) (atoms : List Atom) (apart : AreApart
         no = λ e all. (let w = d.no e in let s = somewhere g f h w.0 w.2 in false≢true (sym s.4 ∙ all (fields_of w.0) s.0 s.1 (in_range w.0) s.3));
       }
 
-  -- where the formula is the negation of another
+  -- if the formula is the negation of another
   pub decides_some : (g : ℕ) (f : ValuationTruth) (b : Bool) → IsDesignGate terms atoms net g (λ c α cv. not (f c α cv)) → IsDecided net g b → Decides (not b) (Somewhere v atoms (PipeControls terms) f)
   decides_some g f b h d =
       record {
@@ -187,7 +187,7 @@ module _ (v : Variant) (terms : List Term) (ids : List ℕ) (o : IsOrderOf pipe_
   pub rules_gates : (s : Settings) (net : Gates) (list : List Rule) → AreRules v terms s net list → HaveGatesOfNet net list
   rules_gates s net list rules k r at = (rules.gates k r at).within
 
-  -- the gate of a rule is false just where its obligation is
+  -- the gate of a rule is false exactly where its obligation is
   pub obligation_false : (r : Rules) (h : AreFileRules v terms r) (k : ℕ) (x : Rule) (w : List Bool) → slice_get r.list k ≡ Some x → truth r.net x.gate w ≡ false →
       IsFalseAt v h.are_settings.atoms (PipeControls terms) h.settings (k + 1) w
   obligation_false r h k x w at e =

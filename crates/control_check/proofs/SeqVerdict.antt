@@ -1,4 +1,4 @@
--- From what is decided of SEQ's rules to what a verdict says of the design.
+-- From the decisions on SEQ's rules to the meaning of a verdict on the design.
 use Rattle.std.proofs.Common.{ℕ, ◌≤◌, List, Some, None, sym, ◌∙◌, Bool}
 use Rattle.std.proofs.lemmas.Bool.{false≢true}
 use Rattle.y86_base.specs.declared.parts.Variant.{Variant}
@@ -32,7 +32,7 @@ as_rules v terms net list r = record {
 accepted_by : (v : Variant) (terms : List Term) → MeetsObligationSet (seq_questions v) terms → AcceptedSeq v terms
 accepted_by v terms a = record { holds = λ i c α cv l h range controls. a.holds i (numbers c) α cv l h range controls }
 
--- a design of which an obligation is false isn't accepted
+-- a design with an obligation that is false somewhere isn't accepted
 rejected_by : (v : Variant) (terms : List Term) (atoms : List Atom) (i : ℕ) (w : List Bool) → 1 ≤ i → i ≤ rule_count → IsFalseAtBits (seq_questions v) terms atoms i w → AcceptedSeq v terms → ⊥
 unfolding fields_of
 rejected_by v terms atoms i w l h f a = false≢true (sym f.fails ∙ a.holds i (fields_of w) f.truths f.values l h (decoded_range spots 0 w) f.controls)

@@ -31,7 +31,7 @@ holds net g b e all = record { yes = λ t. all; no = λ f. absurd (clash b e f) 
     clash : (c : Bool) → c ≡ true → c ≡ false → ⊥
     clash c t f = grind (arith, t, f)
 
--- where all that is left is true
+-- if all rules that are left are true
 pub all_left : (net : Gates) (list : List Rule) (old new : List Bool) → AreTold net list old → IsRuleDecision net (drop (length old) list) None → IsFilled old (length list) new → AreTold net list new
 all_left net list old new told h filled = record {
   within = let s = filled.size in omega (arith, s);
@@ -42,7 +42,7 @@ all_left net list old new told h filled = record {
       x there;
 }
 
--- where the next that is false is found
+-- if a next rule that is false is found
 pub place_is : (net : Gates) (list : List Rule) (from : ℕ) (failure : FailedRule) → AreNumbered list → (h : IsRuleDecision net (drop from list) (Some failure)) → failure.rule ≡ from + h.0 + 1
 place_is net list from failure numbers h = h.3 ∙ numbers (from + h.0) h.1 (sym (from_drop list from h.0) ∙ (h.2).there)
 

@@ -1,4 +1,4 @@
--- Files for PIPE that are accepted, and those that aren't.
+-- Accepted and rejected files for PIPE.
 use Rattle.std.specs.Prelude.{ℕ, Bool, List}
 use Rattle.y86_base.specs.declared.parts.Variant.{Variant}
 use Rattle.hcl_types.specs.declared.table.Design.{Design}
@@ -12,11 +12,12 @@ pub record CheckedFile : Type 0 where
   pub design : Design
   pub settings : Settings
 
--- every obligation holds of the design at these settings, which are its own, and its pipeline is where the instructions are
+-- the design meets every obligation at these settings, which are its own, and its pipeline refines the run of
+-- instructions
 pub record IsAccepted (file : CheckedFile) : Type 0 where
   pub accepts : AcceptsPipe file.variant file.design.terms file.settings
   pub refines : RefinesPipe file.variant file.design.terms
 
--- some obligation is false of some valuation
+-- some obligation is false at some valuation
 abbrev pub IsRejected : Variant → List Term → Type 0
 IsRejected v terms = (rule : ℕ) × (valuation : List Bool) × RejectsPipe v terms rule valuation

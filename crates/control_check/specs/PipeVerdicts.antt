@@ -37,8 +37,9 @@ pub record AreFileRules (v : Variant) (terms : List Term) (r : Rules) : Type 0 w
   pub are_rules : AreRules v terms settings r.net r.list
   pub variant : r.variant ≡ v
 
--- Yes: every obligation holds of every valuation, at the file's own settings. No: one doesn't. The first such obligation is told with
--- its least valuation and the design's atoms. The design is then accepted at no settings: a file has only its own.
+-- Yes: every obligation holds at every valuation, at the file's own settings. No: one doesn't. The verdict has the
+-- first such obligation with its least valuation, and the design's atoms. The design is then accepted at no settings:
+-- a file has only its own.
 pub record AcceptsPipe (v : Variant) (terms : List Term) (s : Settings) : Type 0 where
   pub settings : AreSettings v terms s
   pub holds : Holds v settings.atoms (PipeControls terms) s
@@ -56,7 +57,7 @@ IsPipeVerdict v terms (No rule valuation atoms) = RejectsPipe v terms rule valua
 abbrev pub IsPipeFault : List Term → CheckFault → Type 0
 IsPipeFault terms f = IsFault pipe_rows terms f
 
--- after any number of cycles on any image whose instructions fetch no byte that one of the three before them stored, the pipeline is
--- where the instructions are
+-- the pipeline refines the run of instructions: after any number of cycles on any image whose instructions fetch no
+-- byte that one of the three before them stored
 abbrev pub RefinesPipe : Variant → List Term → Type 0
 RefinesPipe v terms = (image : List ℕ) (k : ℕ) → IsImage image → NearPure v image k → Refines v terms image k

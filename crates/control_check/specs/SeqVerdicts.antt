@@ -14,22 +14,23 @@ use Rattle.ctl_verdicts.specs.declared.fault.CheckFault.{CheckFault}
 use Rattle.control_check.specs.declared.verdict.Verdict.{Verdict}
 use Rattle.control_check.specs.declared.verdict.Verdict.TheVariants.{Yes, No}
 
--- what SEQ asks of a design
+-- what SEQ demands of a design
 abbrev pub seq_questions : Variant → ObligationSet
 seq_questions v = record { rows = seq_rows; spots = spots; count = rule_count; asks = λ i xs α cv. obligation v i (fields_by xs) α cv }
 
--- SEQ has no setting to choose
+-- SEQ has no shortcuts
 abbrev pub no_settings : Settings
 no_settings = record { pt = replicate 7 false; pb = replicate 7 false; tv = false; lf = false; je = false; rm = false }
 
--- no definition of the design mixes codes with words, it has at most 64 atoms, and every obligation holds of every valuation
+-- no definition of the design mixes codes with words, it has at most 64 atoms, and every obligation holds at every
+-- valuation
 pub record AcceptsSeq (v : Variant) (terms : List Term) : Type 0 where
   pub atoms : List Atom
   pub are : AreAtoms seq_rows terms atoms
   pub holds : AcceptedSeq v terms
 
--- so much is true of its definitions and atoms, but an obligation is false of some valuation: of those the first, and the least
--- valuation of which it is
+-- the same is true of its definitions and atoms, but an obligation is false at some valuation: this is the first such
+-- obligation, with the least valuation at which it is false
 pub record RejectsSeq (v : Variant) (terms : List Term) (rule : ℕ) (w : List Bool) : Type 0 where
   pub atoms : List Atom
   pub are : AreAtoms seq_rows terms atoms

@@ -1,4 +1,4 @@
--- Rules that are told one after another: whether each is true of every valuation.
+-- Whether each rule is true at every valuation: the truths of a list of rules, one after another.
 use Rattle.std.specs.Prelude.{◌≡◌, ℕ, ◌+◌, ◌<◌, ◌≤◌, Bool, true, false, List, length, get_or, slice_get, Some}
 use Rattle.nets.specs.Nets.{Gates}
 use Rattle.ctl_rules.specs.declared.rules.Rule.{Rule}
@@ -13,7 +13,7 @@ pub record AreTold (net : Gates) (list : List Rule) (truths : List Bool) : Type 
   pub within : length truths ≤ length list
   pub each : (k : ℕ) (x : Rule) → k < length truths → slice_get list k ≡ Some x → IsDecided net x.gate (get_or truths k false)
 
--- the old ones stay, and true stands behind them
+-- the old ones stay, followed by true up to a length
 pub record IsFilled (old : List Bool) (until : ℕ) (new : List Bool) : Type 0 where
   pub size : length new ≡ until
   pub stay : (k : ℕ) → k < length old → get_or new k false ≡ get_or old k false

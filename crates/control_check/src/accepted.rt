@@ -14,7 +14,7 @@ use std::alloc::Global;
 use std::marker::Model;
 use y86_base::Variant;
 
-/// A design for PIPE that is accepted, with its instruction set and its settings. Only `accept_pipe` makes one.
+/// An accepted design for PIPE, with its instruction set and its settings. Only `accept_pipe` makes one.
 #[derive(Debug, Drop)]
 pub struct Accepted<'a> {
     variant: Variant,
@@ -37,7 +37,7 @@ impl<'a> Model for Accepted<'a> {
 }
 
 impl<'a> Accepted<'a> {
-    /// The instruction set for which the design is accepted.
+    /// The instruction set with which the design is accepted.
     pub fn variant(&self) -> Variant
         ensures is { result ≡ self.now.variant }
         ensures accepted { IsAccepted self.now }
@@ -62,8 +62,8 @@ impl<'a> Accepted<'a> {
     }
 }
 
-/// The design, if the verdict on it is yes. Then its pipeline refines the run of instructions on every image whose
-/// instructions fetch no byte that one of the three before them stored.
+/// The design, if it is accepted. Then its pipeline refines the run of instructions on every image whose instructions
+/// fetch no byte that one of the three before them stored.
 pub fn accept_pipe<'a>(
     alloc: Global,
     variant: Variant,

@@ -7,7 +7,7 @@ ghost use Rattle.hcl_types.specs.declared.term.Term.{Term};
 ghost use Rattle.pipe_motion.specs.declared.settings.Settings.{Settings};
 ghost use Rattle.control_check.specs.PipeVerdicts.{AreSettings};
 
-/// A file has one list of settings at most: each is decided by all its control values.
+/// A file has at most one list of settings: its control values decide each of them.
 pub fn law_of_settings()
     ensures { (v : Variant) (terms : List Term) (ids : List ℕ) (s s' : Settings) → IsOrderOf pipe_rows terms ids → AreSettings v terms s → AreSettings v terms s' → s ≡ s' }
 {}

@@ -1,4 +1,4 @@
-//! The verdict on a design for PIPE: its settings, and then the rules at them.
+//! The verdict on a design for PIPE: first its settings, then the rules at these settings.
 ghost use Rattle.std.specs.Prelude.{◌≡◌, ◌<◌, ◌≤◌, ◌+◌, ◌++◌, ◌∷◌, [], ℕ, IfErr, IfOk, OnOk, Some, drop, get_or, length, slice_get, false, not, true};
 ghost use Rattle.dp_signals.specs.PipeTable.{pipe_rows};
 ghost use Rattle.hcl_types.specs.Tables.{IsBound, IsOrderOf};
@@ -23,17 +23,18 @@ use pipe_motion::Settings;
 use std::alloc::Global;
 use y86_base::{Memory, Variant};
 
-/// How many jumps are predicted: by their ifun.
+/// The number of jumps that are predicted, one for each ifun.
 const JUMPS: usize = 7;
 
-/// Where the gates of the early settings stand in their list: those of jumps forward, those of jumps backward, and the target's.
+/// The indices of the early settings' gates in their list: those of forward jumps, those of backward jumps, that of
+/// the target.
 const FORWARD: usize = 0;
 
 const BACKWARD: usize = FORWARD + JUMPS;
 
 const TARGET: usize = BACKWARD + JUMPS;
 
-/// The settings that hold where a formula is true of every valuation.
+/// The settings that hold if a formula is true at every valuation.
 #[derive(Clone, Copy, Debug, PartialEq, Eq)]
 struct EarlySettings {
     pt: [bool; JUMPS],
@@ -41,7 +42,8 @@ struct EarlySettings {
     tv: bool,
 }
 
-/// The gates of the early settings: the predictions of jumps forward and backward, by ifun, and whether targets are carried.
+/// The gates of the early settings: the predictions of forward and backward jumps, by ifun, and whether jumps carry
+/// their target.
 fn early_gates(alloc: Global, parts: &Parts) -> Result<Vec<u64>, Memory>
     ensures gates { IfOk result (λ gates. gates.items ≡ parts.now.pt ++ (parts.now.pb ++ parts.now.tv ∷ [])) }
     ensures forward { OnOk result (length parts.now.pt ≡ 7) }
@@ -60,7 +62,7 @@ fn early_gates(alloc: Global, parts: &Parts) -> Result<Vec<u64>, Memory>
     Ok(gates)
 }
 
-/// Of some truths those of the jumps, from one on.
+/// The truths of the jumps among others, from an index on.
 fn jumps_from(truths: &[bool], from: usize) -> [bool; JUMPS]
     requires { from + 7 ≤ length truths.now }
     ensures size { length result ≡ 7 }
@@ -73,7 +75,7 @@ fn jumps_from(truths: &[bool], from: usize) -> [bool; JUMPS]
     jumps
 }
 
-/// For each of the formulas of some settings whether it is true of every valuation.
+/// For each formula of the settings, whether it is true at every valuation.
 fn settings_true(alloc: Global, net: &Net, gates: &[u64]) -> Result<Vec<bool>, Memory>
     requires gates { AreGates net.now gates.now }
     ensures size { IfOk result (λ truths. length truths.items ≡ length gates.now) }
@@ -102,7 +104,7 @@ fn decide_early(alloc: Global, parts: &Parts) -> Result<EarlySettings, Memory>
     Ok(EarlySettings { pt, pb, tv })
 }
 
-/// Decides the formulas of the late settings: each holds where its formula is false of some valuation.
+/// Decides the formulas of the late settings. A setting holds if its formula is false at some valuation.
 fn decide_late(
     alloc: Global,
     net: &Net,
@@ -138,7 +140,7 @@ struct DecidedSettings {
     settings: Settings,
 }
 
-/// Settles a file: its parts are made, and its settings decided on them.
+/// Builds the parts of a file, and decides its settings.
 fn settle(
     alloc: Global,
     variant: Variant,
@@ -172,7 +174,7 @@ fn settle(
     }
 }
 
-/// The settings of an HCL file for PIPE: what it does that another needn't, over all control valuations.
+/// The settings of an HCL file for PIPE: which of the permitted shortcuts it takes, over all control valuations.
 pub fn file_settings(
     alloc: Global,
     variant: Variant,
@@ -197,14 +199,14 @@ pub fn decide_pipe(alloc: Global, net: &Net, list: &[Rule]) -> Result<Option<Fai
     decide_in_order(alloc, net, list, orders.as_orders())
 }
 
-/// The rules of a file, and the settings at which they are asked.
+/// The rules of a file, and the settings that they assume.
 #[derive(Drop)]
 pub struct FileRules {
     pub settings: Settings,
     pub rules: Rules,
 }
 
-/// Settles a file, and makes its rules at its settings.
+/// Decides the settings of a file, and builds its rules at these settings.
 pub fn rules_at_settings(
     alloc: Global,
     variant: Variant,
@@ -227,7 +229,7 @@ pub fn rules_at_settings(
     }
 }
 
-/// Puts a truth behind the others.
+/// Appends a truth.
 fn put_truth(truths: &mut Vec<bool>, truth: bool) -> Result<(), Memory>
     ensures { OnOk result (truths.new.items ≡ truths.old.items ++ truth ∷ []) }
 {
@@ -237,7 +239,7 @@ fn put_truth(truths: &mut Vec<bool>, truth: bool) -> Result<(), Memory>
     }
 }
 
-/// Puts `true` behind the others, until there are so many.
+/// Appends `true` until there are `until` truths.
 #[tactic(auto, using(crate::proofs::Tails::filled_none, crate::proofs::Tails::filled_more))]
 fn fill(truths: &mut Vec<bool>, until: usize) -> Result<(), Memory>
     requires { length truths.old.items ≤ until }
@@ -260,7 +262,7 @@ fn how_many(truths: &Vec<bool>) -> usize
     truths.len()
 }
 
-/// The rules from one on.
+/// The rules from an index on.
 fn behind(list: &[Rule], from: usize) -> &[Rule]
     requires { from ≤ length list.now }
     ensures { result.now ≡ drop from list.now }
@@ -268,7 +270,7 @@ fn behind(list: &[Rule], from: usize) -> &[Rule]
     &list[from..]
 }
 
-/// Tells the rules up to the next one that is false of some valuation.
+/// Appends the truths of the rules up to the next one that is false at some valuation.
 #[tactic(auto, using(crate::proofs::Tails::gates_from, crate::proofs::Tails::all_left, crate::proofs::Tails::next_left, crate::proofs::Tails::next_more))]
 fn tell_next(alloc: Global, net: &Net, list: &[Rule], truths: &mut Vec<bool>) -> Result<(), Memory>
     requires gates { HaveGatesOfNet net.now list.now }
@@ -292,7 +294,7 @@ fn tell_next(alloc: Global, net: &Net, list: &[Rule], truths: &mut Vec<bool>) ->
     }
 }
 
-/// For each of PIPE's rules whether it is true of every valuation.
+/// For each of PIPE's rules, whether it is true at every valuation.
 #[tactic(auto, using(crate::proofs::Tails::none_told))]
 pub fn rules_true(alloc: Global, net: &Net, list: &[Rule]) -> Result<Vec<bool>, Memory>
     requires gates { HaveGatesOfNet net.now list.now }
@@ -329,8 +331,8 @@ pub fn file_rules(
     Ok(made.rules)
 }
 
-/// The verdict on an HCL file for PIPE. Where it is yes, the file's machine refines the run of instructions on every
-/// image whose instructions fetch no byte that one of the three before them stored.
+/// The verdict on an HCL file for PIPE. If it is yes, the file's machine refines the run of instructions on every image
+/// whose instructions fetch no byte that one of the three before them stored.
 pub fn check_pipe(
     alloc: Global,
     variant: Variant,

@@ -16,21 +16,21 @@ pub struct OrderList {
 }
 
 impl OrderList {
-    /// Those for obligations.
+    /// The orders for obligations.
     pub fn for_rules(alloc: Global, vars: u32) -> Result<OrderList, Memory>
         ensures { IfOk result (AreOrders vars) }
     {
         OrderList::with(alloc, Layout::RegistersLast(Weave::Fours), vars)
     }
 
-    /// Those for settings.
+    /// The orders for settings.
     pub fn for_settings(alloc: Global, vars: u32) -> Result<OrderList, Memory>
         ensures { IfOk result (AreOrders vars) }
     {
         OrderList::with(alloc, Layout::Stages, vars)
     }
 
-    /// Those in which all valuations have this layout.
+    /// The orders in which all valuations have this layout.
     fn with(alloc: Global, whole: Layout, vars: u32) -> Result<OrderList, Memory>
         ensures { IfOk result (AreOrders vars) }
     {

@@ -1,4 +1,4 @@
-//! What a verdict says, and that on a design for SEQ.
+//! What a verdict says, and the verdict on a design for SEQ.
 ghost use Rattle.std.specs.Prelude.{◌≡◌, IfErr, IfOk, true};
 ghost use Rattle.hcl_types.specs.Tables.{IsBound, IsOrderOf};
 ghost use Rattle.dp_signals.specs.SeqTable.{seq_rows};
@@ -14,11 +14,11 @@ use seq_obligations::seq_rules;
 use std::alloc::Global;
 use y86_base::{Items, Memory, Variant};
 
-/// Whether every obligation holds of a design, and if not, the number of the first that doesn't, with the least
-/// valuation of which it is false, and the design's atoms.
+/// Whether a design meets every obligation. If not: the number of the first one that it doesn't meet, with the least
+/// valuation at which that is false, and the design's atoms.
 #[derive(Debug, PartialEq, Drop)]
 pub enum Verdict {
-    /// With the settings under which the obligations were asked; for SEQ each is false.
+    /// With the settings at which the obligations hold; for SEQ each is false.
     Yes(Settings),
     No {
         rule: u32,
@@ -27,7 +27,7 @@ pub enum Verdict {
     },
 }
 
-/// The settings of SEQ, which has none to choose.
+/// The settings of SEQ, which has no shortcuts.
 const NO_SETTINGS: Settings = Settings {
     pt: [false; 7],
     pb: [false; 7],
@@ -37,7 +37,7 @@ const NO_SETTINGS: Settings = Settings {
     rm: false,
 };
 
-/// The verdict on an HCL file for SEQ. Where it is yes, the file's machine runs as the instructions do: on every image,
+/// The verdict on an HCL file for SEQ. If it is yes, the file's machine runs as the instructions do: on every image,
 /// for every number of cycles.
 pub fn check_seq(
     alloc: Global,

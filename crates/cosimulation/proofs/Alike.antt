@@ -1,4 +1,4 @@
--- Two machines side by side: one cycle more, and the end.
+-- Two machines side by side: one more cycle, and the end.
 use Rattle.std.proofs.Common.{◌≡◌, ℕ, zero, suc, ◌+◌, ◌<◌, ◌≤◌, true, false, List, [], ◌∷◌, ◌++◌, length, Option, Some, None, refl, sym, ap, ◌∙◌, subst, add-one, arith, length-append}
 use Rattle.std.proofs.lemmas.List.{append-nil}
 use Rattle.std.specs.Option.{option_to_list}
@@ -48,9 +48,9 @@ go_one v p m q n r one other cycle some is same after =
       machine = after ∙ sym (run_from-last v m 0 ∙ ap (advance v) (run_from-none v m));
     }
 
--- ---- one cycle more
+-- ---- one more cycle
 
--- the records of 0 or 1 steps more
+-- the records of 0 or 1 more steps
 records_more : (v : Variant) (m : Machine) (steps count : ℕ) → count ≤ 1 → records_from v m (steps + count) ≡ records_from v m steps ++ records_from v (run_from v m steps) count
 records_more v m steps zero few =
     ap (records_from v m) (omega arith) ∙ sym (ap (λ xs. records_from v m steps ++ xs) (records_from-none v (run_from v m steps)) ∙ append-nil (records_from v m steps))

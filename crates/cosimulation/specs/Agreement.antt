@@ -1,8 +1,8 @@
--- What the comparison comes to where the runs agree.
+-- The outcome of the comparison if the runs agree.
 use Rattle.cosimulation.specs.declared.lockstep.Compared.{Compared}
 use Rattle.cosimulation.specs.declared.lockstep.Compared.TheVariants.{Same, Open, Record, State}
 
--- no record differs, and no final state
+-- no record and no final state differs
 abbrev pub FindsNone : Compared → Type 0
 FindsNone (Same steps cycles) = Unit {0}
 FindsNone (Open steps) = Unit {0}

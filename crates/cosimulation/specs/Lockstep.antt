@@ -16,14 +16,14 @@ use Rattle.cosimulation.specs.declared.lockstep.Compared.{Compared}
 use Rattle.cosimulation.specs.declared.lockstep.Compared.TheVariants.{Same, Open, Record, State}
 use Rattle.cosimulation.specs.declared.lockstep.RecordDiffers.{RecordDiffers}
 
--- q is p after so many cycles, before each of which it had not ended. What retired in them are the first records of the run of m by
--- instructions, so many, and no other.
+-- q is p after `cycles` cycles; it hadn't ended before any of them. Exactly the first `steps` records of the run of m
+-- by instructions retired in them.
 pub record IsAlike (v : Variant) (p : PipeMachine) (m : Machine) (cycles steps : ℕ) (q : PipeMachine) : Type 0 where
   pub goes : CallsFor p cycles q (records_from v m steps)
   pub count : length (records_from v m steps) ≡ steps
 
--- The first record that differs: the records before it are alike, it retired in this cycle, and the run by instructions has another in
--- its place, or none.
+-- The first record that differs: the records before it are alike, it retired in this cycle, and the run by
+-- instructions has another record in its place, or none.
 pub record IsFirstDifferent (v : Variant) (p : PipeMachine) (m : Machine) (d : RecordDiffers) : Type 0 where
   pub after : PipeMachine
   pub goes : CallsFor p d.cycle after (records_from v m d.before ++ d.retired ∷ [])
@@ -31,7 +31,7 @@ pub record IsFirstDifferent (v : Variant) (p : PipeMachine) (m : Machine) (d : R
   pub wanted : d.wanted ≡ retired v (run_from v m d.before)
   pub differs : d.wanted ≢ Some d.retired
 
--- what a comparison of at most so many cycles comes to
+-- the outcome of a comparison of at most `limit` cycles
 abbrev pub IsCompared : Variant → PipeMachine → Machine → ℕ → Compared → Type 0
 IsCompared v p m limit (Same steps cycles) =
     (q : PipeMachine) × IsAlike v p m cycles steps q × (cycles ≤ limit) × (is_aok q.end ≡ false) × SameState (end_of q) (run_from v m steps)
@@ -59,7 +59,7 @@ pub record GoApart (v : Variant) (p : PipeMachine) (m : Machine) (q : PipeMachin
   pub wanted : other ≡ retired v m
   pub differs : other ≢ Some one
 
--- the comparison of final states, behind so many records and cycles
+-- the comparison of final states, after `steps` records and `cycles` cycles
 abbrev pub EndsAs : Machine → Machine → ℕ → ℕ → Compared → Type 0
 EndsAs m n steps cycles (Same a b) = (a ≡ steps) × (b ≡ cycles) × SameState m n
 EndsAs m n steps cycles (Open a) = ⊥

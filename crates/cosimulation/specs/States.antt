@@ -1,4 +1,4 @@
--- Final states that are the same, and a part in which two differ.
+-- Equal final states, and a part in which two differ.
 use Rattle.std.specs.Prelude.{◌≡◌, ◌≢◌, ℕ, ◌/◌, ◌<◌, length}
 use Rattle.y86_base.specs.Registers.{register}
 use Rattle.y86_isa.specs.declared.machine.Machine.{Machine}
@@ -14,7 +14,7 @@ pub record SameState (m n : Machine) : Type 0 where
   pub registers : (k : ℕ) → k < 15 → register m.regs k ≡ register n.regs k
   pub memory : (k : ℕ) → k < length m.mem / 8 → aligned_word m.mem k ≡ aligned_word n.mem k
 
--- they differ in a part, in which they have these
+-- they differ in a part, where they have these values
 abbrev pub DiffersIn : Machine → Machine → Part → Type 0
 DiffersIn m n (Stat a b) = (a ≡ m.stat) × (b ≡ n.stat) × (a ≢ b)
 DiffersIn m n (Pc a b) = (a ≡ m.pc) × (b ≡ n.pc) × (a ≢ b)

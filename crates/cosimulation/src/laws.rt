@@ -9,7 +9,8 @@ ghost use Rattle.pipe_refinement.specs.Refines.{Refines};
 ghost use Rattle.y86_base.specs.declared.parts.Variant.{Variant};
 ghost use Rattle.y86_isa.specs.Machine.{start};
 
-/// Under a design that refines the run of instructions on an image, no record and no final state differs.
+/// Under a design that refines the run of instructions on an image, the comparison finds no different record and no
+/// different final state.
 pub fn law_of_agreement()
     ensures { (v : Variant) (terms : List Term) (order image : List ℕ) (limit : ℕ) (c : Compared) → ((k : ℕ) → Refines v terms image k) →
         IsCompared v (started v terms order image) (start image) limit c → FindsNone c }

@@ -1,4 +1,5 @@
-//! The run by instructions and the run of PIPE under a design, side by side: to the first retired record that differs, or to the end.
+//! The run by instructions and the run of PIPE under a design, side by side: up to the first retired record that
+//! differs, or to the end.
 #![tactic(auto)]
 
 mod laws;

@@ -19,8 +19,8 @@ use y86_base::{Image, Memory, Variant};
 use y86_isa::{Machine, Rec, step};
 use yis_run::End;
 
-/// A record that differs: how many records were alike before it, the cycle that retired it, and the record of the run by instructions in
-/// its place, if that run has one more.
+/// A record that differs: how many records before it were alike, the cycle that retired it, and the record that the
+/// run by instructions has in its place, if it has one.
 #[derive(Clone, Copy, Debug)]
 pub struct RecordDiffers {
     pub before: u64,
@@ -29,12 +29,12 @@ pub struct RecordDiffers {
     pub wanted: Option<Rec>,
 }
 
-/// What the two runs came to.
+/// The outcome of the two runs.
 #[derive(Clone, Copy, Debug)]
 pub enum Compared {
     /// Both stopped after the same records, in the same state: the number of records, and of cycles.
     Same(u64, u64),
-    /// The pipeline goes on at the limit. This number of records retired, and all are alike.
+    /// The pipeline hasn't ended at the limit. This number of records retired, and all are alike.
     Open(u64),
     /// The first record that differs.
     Record(RecordDiffers),
@@ -42,7 +42,7 @@ pub enum Compared {
     State(u64, u64, Part),
 }
 
-/// The record that an answer of `cycle` has.
+/// The record in an answer of `cycle`.
 fn record_of(cycled: Cycled) -> Option<Rec>
     ensures { result ≡ record_in cycled }
 {
@@ -53,7 +53,8 @@ fn record_of(cycled: Cycled) -> Option<Rec>
     }
 }
 
-/// Does one cycle, and the next instruction where a record retired: how many did, 0 or 1, or the two records where they differ.
+/// Runs one cycle, and the next instruction if a record retired. Returns how many retired, 0 or 1, or the two records
+/// if they differ.
 fn go_both<C: SignalEval>(
     v: Variant,
     m: &mut Machine,
@@ -114,8 +115,8 @@ fn run_both<C: SignalEval>(v: Variant, m: &mut Machine, p: &mut Pipe<C>, limit: 
     ended(m, p, steps, limit)
 }
 
-/// Runs an image by its instructions and on PIPE under a design, side by side, for at most `limit` cycles. All memory is taken before the
-/// first cycle.
+/// Runs an image by its instructions and on PIPE under a design, side by side, for at most `limit` cycles. All memory
+/// is allocated before the first cycle.
 pub fn compare(
     alloc: Global,
     v: Variant,

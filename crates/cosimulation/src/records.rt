@@ -22,7 +22,7 @@ fn same_status(one: Stat, other: Stat) -> bool
     one == other
 }
 
-/// Whether two records are of the same instruction.
+/// Whether two records are records of the same instruction.
 fn same_instruction(one: &Rec, other: &Rec) -> bool
     ensures { (result ≡ true) ↔ ((one.now.pc ≡ other.now.pc) × (one.now.icode ≡ other.now.icode) × (one.now.ifun ≡ other.now.ifun)) }
 {
@@ -39,7 +39,7 @@ fn same_writes(one: &Rec, other: &Rec) -> bool
         && one.val_m == other.val_m
 }
 
-/// Whether two records leave the same: the store, the flags and the status.
+/// Whether two records have the same store, flags and status.
 fn same_outcome(one: &Rec, other: &Rec) -> bool
     ensures { (result ≡ true) ↔ ((one.now.store ≡ other.now.store) × (one.now.flags ≡ other.now.flags) × (one.now.stat ≡ other.now.stat)) }
 {

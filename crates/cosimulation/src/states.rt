@@ -7,8 +7,8 @@ ghost use Rattle.yis_run.specs.Report.{aligned_word, ended};
 use y86_base::{Flags, Image, Regs, Stat};
 use yis_run::End;
 
-/// A part of the state, with what the one and the other state have there. A register goes by its number, and an aligned word of memory by
-/// its place: 8 times that is its address.
+/// A part of the state, with its values in the one and in the other. A register is given by its number, an aligned
+/// word of memory by its index: its address is 8 times that.
 #[derive(Clone, Copy, Debug, PartialEq, Eq)]
 pub enum Part {
     Stat(Stat, Stat),
@@ -31,7 +31,7 @@ fn register_difference(one: &Regs, other: &Regs) -> Option<u64>
     None
 }
 
-/// The aligned word at a place of a memory, 0 outside.
+/// The aligned word at an index of a memory; 0 outside.
 fn word_of(memory: &Image, n: u64) -> u64
     requires { n < 2 ^ 60 }
     ensures { result ≡ aligned_word memory.now n }
@@ -39,7 +39,7 @@ fn word_of(memory: &Image, n: u64) -> u64
     memory.word(8 * n).unwrap_or(0)
 }
 
-/// The first aligned word in which they differ, by its place, and what both have there.
+/// The first aligned word in which they differ, by its index, and its value in both.
 fn memory_difference(one: &Image, other: &Image) -> Option<(u64, u64, u64)>
     ensures none { IfNone result ((n : ℕ) → n < length one.now / 8 → aligned_word one.now n ≡ aligned_word other.now n) }
     ensures some { IfSome result (λ d. (d.1 ≡ aligned_word one.now d.0) × (d.2 ≡ aligned_word other.now d.0) × (d.1 ≢ d.2)) }

@@ -82,7 +82,7 @@ places_stand vars le = record {
   inside = ((omega arith, omega arith), ((omega arith, omega arith), ((omega arith, omega arith), ((omega arith, omega arith), ((omega arith, omega arith), ((omega arith, omega arith), ((omega arith, omega arith), ((omega arith, omega arith), ((omega arith, omega arith), ((omega arith, omega arith), ((omega arith, omega arith), ((omega arith, omega arith), ((omega arith, omega arith), ((omega arith, omega arith), ((omega arith, omega arith), ((omega arith, omega arith), ((omega arith, omega arith), ((omega arith, omega arith), ((omega arith, omega arith), ((omega arith, omega arith), ((omega arith, omega arith), ((omega arith, omega arith), ((omega arith, omega arith), ((omega arith, omega arith), ((omega arith, omega arith), ((omega arith, omega arith), ((omega arith, omega arith), tt)))))))))))))))))))))))))));
 }
 
--- what the translation of a design gives, over the table and the places that it was asked for
+-- what the translation of a design guarantees, given that its table and places are those of PIPE
 pub told_design : {translated : Gates} (terms : List Term) (rows : List Row) (ps : List Place) (ctl : List Entry) (atoms : List Atom) (vars : ℕ)
     → rows ≡ pipe_rows → ps ≡ places → AreAtoms rows terms atoms → vars ≡ bit_count + length atoms → translated.vars ≡ vars → IsInside translated ctl → Covers rows ctl
     → ((w : List Bool) (α : Assignment) (field : ℕ → ℕ) (cv : ℕ → Leaf) (listed : List Atom) → AreAtoms rows terms listed → AtomsAre listed (vars - length listed) w α
@@ -100,11 +100,11 @@ told_design {translated} terms rows ps ctl atoms vars e f are size same inside c
     from : vars - length atoms ≡ bit_count
     from = omega (arith, size)
 
--- the same settings but for those that are early or late, all of which are allowed
+-- the same settings, but with every early fetch and late word allowed
 pub freed : (s : Settings) (pt pb : List Bool) (tv : Bool) → s.pt ≡ pt → s.pb ≡ pb → s.tv ≡ tv → permissive s ≡ record { pt = pt; pb = pb; tv = tv; lf = true; je = true; rm = true }
 freed s pt pb tv e f g = λ i. record { pt = e i; pb = f i; tv = g i; lf = true; je = true; rm = true }
 
--- what decides lf, je and rm reads no others
+-- the truths that decide lf, je and rm read no other setting
 pub lf_freed : (v : Variant) (s : Settings) (atoms : List Atom) (c : Fields) (α : Assignment) (cv : ℕ → Leaf) → witnesses_lf v s atoms c α cv ≡ witnesses_lf v (permissive s) atoms c α cv
 unfolding witnesses_lf may_witness flow_of
 lf_freed v s atoms c α cv = refl
@@ -149,16 +149,16 @@ belongs_more terms p q h k rest = subst (BelongTo terms) (sym rest) (record {
   };
 })
 
--- three things that hold of an answer, where there is one, and what follows of them
+-- three properties of a result, if there is one, and what follows from them
 pub told_of_three : {T E : Type 0} {A B C D : T → Type 0} → (r : Result T E) → IfOk r A → IfOk r B → IfOk r C → ((x : T) → A x → B x → C x → D x) → IfOk r D
 told_of_three (Ok x) a b c f = f x a b c
 told_of_three (Err e) a b c f = tt
 
--- a formula in other words
+-- a formula with an equal truth
 pub formula_as : {net : Gates} {terms : List Term} {atoms : List Atom} {g : ℕ} {f h : ValuationTruth} → IsDesignGate terms atoms net g f → ((c : Fields) (α : Assignment) (cv : ℕ → Leaf) → f c α cv ≡ h c α cv) → IsDesignGate terms atoms net g h
 formula_as q e = record { within = q.within; is = λ w α cv l k. q.is w α cv l k ∙ e (fields_of w) α cv }
 
--- what is told by the gates of a design's names is a formula of the design
+-- what the gates of a design's names encode is a formula of the design
 pub formula_of : {net new : Gates} (terms : List Term) (ctl : List Entry) (atoms : List Atom) (g : ℕ) (f : ValuationTruth) → IsTranslated terms net ctl atoms → ExtendsNet net new → IsTruthGate new ctl atoms g f → IsDesignGate terms atoms new g f
 formula_of terms ctl atoms g f made k told = record { within = told.within; is = λ w α cv h c. told.is w α cv h (tells_more k made.inside (made.tells w α cv h c)) }
 

@@ -1,4 +1,4 @@
--- Lists of rules, one more at a time; what a gate tells stays told.
+-- Lists of rules, extended by one rule at a time; a gate keeps its truth as the net grows.
 use Rattle.std.proofs.Common.{◌≡◌, ℕ, ◌+◌, ◌<◌, ◌⊎◌, inl, inr, Bool, true, false, not, ◌||◌, if◌then◌else◌, List, [], ◌∷◌, ◌++◌, length, get_or, slice_set, refl, sym, ap, subst, ◌∙◌, arith}
 use Rattle.std.proofs.lemmas.List.{get_or-set_same, get_or-set_other}
 use Rattle.y86_base.specs.declared.parts.Variant.{Variant}

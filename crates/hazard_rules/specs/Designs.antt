@@ -14,7 +14,7 @@ use Rattle.net_fields.specs.declared.field_specs.FieldSpec.{FieldSpec}
 use Rattle.pipe_fields.specs.Layout.{bit_count, fields_of, field_specs}
 use Rattle.pipe_obligations.specs.FileSettings.{PipeControls}
 
--- where each field of a table that is a signal stands, with the first field's first bit at a number
+-- the places of the fields of a table that are signals, with the first field's first bit at a number
 abbrev placed : Option ℕ → ℕ → ℕ → List Place → List Place
 placed None first bits rest = rest
 placed (Some name) first bits rest = record { name = name; first = first; bits = bits } ∷ rest
@@ -23,11 +23,12 @@ abbrev pub places_from : List FieldSpec → ℕ → List Place
 places_from [] first = []
 places_from (s ∷ ss) first = placed s.name first s.bits (places_from ss (first + s.bits))
 
--- where each signal that is a field stands among the variables
+-- the places of the signals that are fields among the variables
 abbrev pub places : List Place
 places = places_from field_specs 0
 
--- the net has a variable for each bit of a field and each atom, and its gates tell the control values of the design's names
+-- the net has a variable for each bit of a field and each atom, and its gates encode the control values of the
+-- design's names
 pub record IsTranslated (terms : List Term) (net : Gates) (ctl : List Entry) (atoms : List Atom) : Type 0 where
   pub are : AreAtoms pipe_rows terms atoms
   pub vars : net.vars ≡ bit_count + length atoms

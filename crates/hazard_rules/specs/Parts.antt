@@ -1,4 +1,4 @@
--- The gates of a file's formulas: what decides its settings, and its rules.
+-- The gates of a file's formulas: those that decide its settings, and its rules.
 use Rattle.std.specs.Prelude.{ℕ, ◌≡◌, ◌+◌, ◌<◌, Bool, true, false, not, List, length, get_or, slice_get, Some}
 use Rattle.y86_base.specs.declared.parts.Variant.{Variant}
 use Rattle.nets.specs.Nets.{Gates, truth}
@@ -16,13 +16,14 @@ use Rattle.pipe_gates.specs.GateTruths.{IsTruthGate}
 use Rattle.pipe_obligations.specs.Rules.{obligation, rule_count}
 use Rattle.pipe_obligations.specs.FileSettings.{PipeControls, ValuationTruth, picks_target, alu_passes_target, witnesses_lf, witnesses_je, witnesses_rm}
 
--- the gate has the truth f of the valuation that the bits spell, for the truths of atoms that they tell, and its control values
+-- the gate has the truth f of the valuation that the bits spell, for the truths of atoms that they encode, and its
+-- control values
 pub record IsDesignGate (terms : List Term) (atoms : List Atom) (net : Gates) (g : ℕ) (f : ValuationTruth) : Type 0 where
   pub within : g < length net.gates
   pub is : (w : List Bool) (α : Assignment) (cv : ℕ → Leaf) → AtomsAre atoms bit_count w α → PipeControls terms (fields_of w) α cv
       → truth net g w ≡ f (fields_of w) α cv
 
--- the gates that decide pt, pb and tv: each setting holds where its gate is true at every valuation
+-- the gates that decide pt, pb and tv: a setting holds if its gate is true at every valuation
 pub record AreEarlyGates (v : Variant) (terms : List Term) (net : Gates) (pt pb : List ℕ) (tv : ℕ) : Type 0 where
   pub atoms : List Atom
   pub are : AreAtoms pipe_rows terms atoms
@@ -31,7 +32,7 @@ pub record AreEarlyGates (v : Variant) (terms : List Term) (net : Gates) (pt pb 
   pub backward : (i : ℕ) → i < 7 → IsDesignGate terms atoms net (get_or pb i 0) (picks_target v atoms i true)
   pub target : (s : Settings) → IsDesignGate terms atoms net tv (alu_passes_target v s)
 
--- the gates that decide lf, je and rm where these are pt, pb and tv: each setting holds where its gate is false at some valuation
+-- the gates that decide lf, je and rm, given pt, pb and tv: a setting holds if its gate is false at some valuation
 pub record AreLateGates (v : Variant) (terms : List Term) (pt pb : List Bool) (tv : Bool) (net : Gates) (lf je rm : ℕ) : Type 0 where
   pub atoms : List Atom
   pub are : AreAtoms pipe_rows terms atoms
@@ -57,6 +58,6 @@ pub record IsRuleGate (v : Variant) (s : Settings) (net : Gates) (ctl : List Ent
 abbrev pub AreRuleGates : Variant → Settings → Gates → List Entry → List Atom → List Rule → Type 0
 AreRuleGates v s net ctl atoms list = (k : ℕ) (x : Rule) → slice_get list k ≡ Some x → IsRuleGate v s net ctl atoms k x
 
--- the first gates of a list tell whether jumps of these ifuns, that go back or not, are predicted as taken
+-- the first n gates of a list decide whether jumps with the ifuns below n, which go back or not, are predicted as taken
 abbrev pub ArePredictionGates : Variant → Gates → List Entry → List Atom → Bool → List ℕ → ℕ → Type 0
 ArePredictionGates v net ctl atoms back gates n = (i : ℕ) → i < n → IsTruthGate net ctl atoms (get_or gates i 0) (picks_target v atoms i back)

@@ -1,4 +1,4 @@
-//! What each of the 27 obligations asks, by its number.
+//! What each of the 27 obligations demands, by its number.
 ghost use Rattle.std.specs.Prelude.{◌≤◌, IfOk, length};
 ghost use Rattle.nets.specs.Nets.{ExtendsNet};
 ghost use Rattle.ctl_formula.specs.Picks.{Covers, IsInside};
@@ -22,7 +22,7 @@ use pipe_stage_gates::{
 };
 use y86_base::{Memory, Variant};
 
-/// What the obligation of a number from 1 to 27 asks.
+/// What the obligation of a number from 1 to 27 demands.
 #[tactic(auto, using(pipe_stage_gates::proofs::Ready::ready_by, pipe_stage_gates::proofs::Ready::front_ready_by))]
 pub(crate) fn demand_gate(
     b: &mut NetBuilder,

@@ -13,7 +13,7 @@ use nets::NetBuilder;
 use pipe_fields::{BIT_COUNT, field_table, places as field};
 use std::alloc::Global;
 
-/// A builder of a net with a variable for each bit of a control valuation, with the gates of all names, and the atoms.
+/// A net builder with a variable for each bit of a control valuation, the gates of all names, and the atoms.
 #[derive(Drop)]
 pub(crate) struct DesignGates {
     pub b: NetBuilder,
@@ -29,14 +29,14 @@ macro_rules! signal_places {
 
 static PLACES: [Place; 27] = field_table!(signal_places);
 
-/// The places of the signals that are fields, as the translation of a design asks for them.
+/// The places of the signals that are fields, in the form that the translation of a design needs.
 fn places() -> &'static [Place]
     ensures { result.now ≡ spec_places }
 {
     &PLACES
 }
 
-/// The gates of all names of a design. A design that mixes classes or asks more than 64 atoms has none.
+/// The gates of all names of a design. A design that mixes classes or needs more than 64 atoms has none.
 pub(crate) fn translated(alloc: Global, d: &Design, o: &Order) -> Result<DesignGates, CtlFault>
     requires bound { IsBound pipe_rows d.now.terms }
     requires ordered { IsOrderOf pipe_rows d.now.terms o.now.ids }

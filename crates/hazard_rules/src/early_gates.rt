@@ -1,4 +1,4 @@
-//! What decides the settings pt, pb and tv of a file.
+//! The gates that decide the settings pt, pb and tv of a file.
 ghost use Rattle.std.specs.Prelude.{◌<◌, ◌≤◌, ◌+◌, length, true, false, IfOk};
 ghost use Rattle.nets.specs.Nets.{ExtendsNet, IsGate};
 ghost use Rattle.ctl_formula.specs.Picks.{Covers, IsInside};
@@ -24,8 +24,8 @@ use pipe_motion_gates::prediction_premise;
 use pipe_stage_gates::target_gate;
 use y86_base::{Memory, Variant};
 
-/// Where a jump of one of the seven ifuns that goes back or not is fetched, it is predicted as taken: f_predPC is f_valC. `fits` is
-/// the gate of the valuations that are allowed.
+/// For each of the seven ifuns: if a jump with this ifun that goes back, or (without `back`) doesn't, is fetched, it is
+/// predicted as taken: f_predPC is f_valC. `fits` is the gate of the valuations that are allowed.
 #[tactic(auto, using(nets::proofs::Truths::begins_more, ctl_formula::proofs::Inside::inside_more, pipe_gates::proofs::Known::known_f_predPC))]
 pub(crate) fn predictions(
     b: &mut NetBuilder,

@@ -1,6 +1,6 @@
 //! The formulas of a design for PIPE: the gates that decide its settings, and those of the 27 obligations, over one net.
 //!
-//! `pipe_obligations` says what each obligation asks, and `demands` calls its gate by its number:
+//! `pipe_obligations` says what each obligation demands, and `demands` calls its gate by its number:
 //!
 //! | obligation | crate | module | function |
 //! |---|---|---|---|

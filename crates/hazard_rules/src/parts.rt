@@ -1,4 +1,4 @@
-//! The formulas of a design for PIPE: what decides its settings, and its rules.
+//! The formulas of a design for PIPE: the gates that decide its settings, and its rules.
 ghost use Rattle.std.specs.Prelude.{◌≡◌, List, IfErr, IfOk};
 ghost use Rattle.nets.specs.Nets.{ExtendsNet};
 ghost use Rattle.hcl_types.specs.Tables.{IsBound, IsOrderOf};
@@ -22,9 +22,9 @@ use std::alloc::Global;
 use std::mem;
 use y86_base::{Items, Memory, Variant};
 
-/// What the settings and the obligations of a design are built from: a net with one variable for each bit of a control valuation (the
-/// fields first, then the atoms), with gates for the control values of all names; the gates that decide pt, pb and tv, each setting
-/// holding where its gate is true at every valuation; and the atoms, in their order.
+/// What the settings and the obligations of a design are built from: a net with one variable for each bit of a control
+/// valuation (the fields first, then the atoms), with gates for the control values of all names; the gates that decide
+/// pt, pb and tv (a setting holds if its gate is true at every valuation); and the atoms, in their order.
 #[derive(Drop)]
 pub struct Parts {
     pub variant: Variant,
@@ -38,7 +38,7 @@ pub struct Parts {
 
 /// The parts of a design.
 ///
-/// Errors: `Mixed` and `AtomsOver64`, as `ctl_atoms::atoms` tells them; `Memory`.
+/// Errors: `Mixed` and `AtomsOver64`, as `ctl_atoms::atoms` reports them; `Memory`.
 pub fn pipe_parts(alloc: Global, v: Variant, d: &Design, o: &Order) -> Result<Parts, CtlFault>
     requires bound { IsBound pipe_rows d.now.terms }
     requires ordered { IsOrderOf pipe_rows d.now.terms o.now.ids }
@@ -68,8 +68,8 @@ pub fn pipe_parts(alloc: Global, v: Variant, d: &Design, o: &Order) -> Result<Pa
     }
 }
 
-/// Adds to the net of parts what decides lf, je and rm, where these are pt, pb and tv. The gates that were there stay, also where
-/// memory is refused.
+/// Adds to the net of parts the gates that decide lf, je and rm, given pt, pb and tv. Gates that were already in the
+/// net stay, even if memory runs out.
 pub fn pipe_late(
     alloc: Global,
     p: &mut Parts,

@@ -24,7 +24,8 @@ use pipe_obligations::RULE_COUNT;
 use std::alloc::Global;
 use y86_base::{Memory, Variant};
 
-/// What stands in the stages, and the valuations of which obligations are asked: in any cycle, and in one that goes on.
+/// The flow of the stages, and the valuations at which obligations are demanded: in any cycle, and in one that
+/// doesn't stop.
 #[derive(Clone, Copy, Debug)]
 pub(crate) struct Premises {
     pub flow: FlowGates,
@@ -63,7 +64,7 @@ fn one_of(first: bool, x: u64, y: u64) -> u64
     if first { x } else { y }
 }
 
-/// The 27 obligations in their order: of each number its demand, where it is asked.
+/// The 27 obligations in their order: each number's demand, with its premise.
 pub(crate) fn rules_told(
     alloc: Global,
     b: &mut NetBuilder,

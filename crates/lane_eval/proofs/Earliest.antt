@@ -1,4 +1,4 @@
--- The first index at which a rule is false: one more rule, another truth that is the same, and one more block of indices.
+-- The first index at which a rule is false: with one more rule, with equal truths, and with one more block of indices.
 use Rattle.std.proofs.Common.{◌≡◌, ◌⊎◌, inl, inr, ℕ, ◌+◌, ◌-◌, ◌<◌, ◌≤◌, Bool, true, false, List, length, slice_get, Option, Some, None, refl, sym, ap, ◌∙◌, subst, arith}
 use Rattle.std.proofs.lemmas.Bool.{cases_eq, cases_lt}
 use Rattle.std.proofs.lemmas.Option.{slice_get_within}
@@ -6,7 +6,8 @@ use Rattle.ctl_rules.specs.declared.rules.Rule.{Rule}
 use Rattle.lane_eval.specs.Search.{AllHold, HoldBefore, IsFirstAt, IsFirstFalse}
 use Rattle.lane_eval.specs.declared.search.Found.{Found}
 
--- what is known behind the first rules: before the best place they are all true, and there, if it is one, the first that is false has this number
+-- what is known after the first rules: before the best place they are all true, and there, unless it is the count,
+-- the first rule that is false has this number
 pub record IsBest (holds : ℕ → Rule → Bool) (list : List Rule) (count k best number : ℕ) : Type 0 where
   pub within : best ≤ count
   pub earlier : (i : ℕ) → i < best → HoldBefore holds list i k
@@ -32,7 +33,7 @@ best_none holds list count number = record {
   first = λ h. absurd (omega (arith, h));
 }
 
--- the rule is first false at a lesser place
+-- the rule is false at a smaller place first
 pub best_less : (holds : ℕ → Rule → Bool) (list : List Rule) (count k best number place : ℕ) (rule : Rule) → IsBest holds list count k best number
     → slice_get list k ≡ Some rule → place < best → ((i : ℕ) → i < place → holds i rule ≡ true) → (place < count → holds place rule ≡ false)
     → IsBest holds list count (k + 1) place rule.number
@@ -42,7 +43,7 @@ best_less holds list count k best number place rule known there less before fail
   first = λ h. record { place = k; rule = rule; there = there; fails = fails h; before = known.earlier place less; numbered = refl };
 }
 
--- it is not false before the best place
+-- the rule isn't false before the best place
 pub best_stays : (holds : ℕ → Rule → Bool) (list : List Rule) (count k best number place : ℕ) (rule : Rule) → IsBest holds list count k best number
     → slice_get list k ≡ Some rule → best ≤ place → ((i : ℕ) → i < place → holds i rule ≡ true)
     → IsBest holds list count (k + 1) best number
@@ -52,7 +53,7 @@ best_stays holds list count k best number place rule known there le before = rec
   first = known.first;
 }
 
--- behind the last rule
+-- after the last rule
 all_hold : (holds : ℕ → Rule → Bool) (list : List Rule) (i k : ℕ) → length list ≤ k → HoldBefore holds list i k → AllHold holds list i
 all_hold holds list i k le h j x at = h j x (omega (arith, le, slice_get_within list j x at)) at
 
@@ -64,7 +65,7 @@ pub best_all : (holds : ℕ → Rule → Bool) (list : List Rule) (count k best 
     → IsFirstFalse holds list count None
 best_all holds list count k best number le known past = λ i h. all_hold holds list i k le (known.earlier i (omega (arith, h, past)))
 
--- ---- a truth that is the same below the count
+-- ---- truths that are the same below the count
 
 module _ (holds other : ℕ → Rule → Bool) (list : List Rule) (count : ℕ) (same : (i j : ℕ) (x : Rule) → i < count → slice_get list j ≡ Some x → holds i x ≡ other i x) where
   all_same : (i : ℕ) → i < count → AllHold holds list i → AllHold other list i
@@ -85,7 +86,7 @@ module _ (holds other : ℕ → Rule → Bool) (list : List Rule) (count : ℕ) 
     },
   )
 
--- ---- a block of indices behind those at which all hold
+-- ---- a block of indices after those at which all hold
 
 module _ (holds block : ℕ → Rule → Bool) (list : List Rule) (at : ℕ) (same : (i : ℕ) (x : Rule) → block i x ≡ holds (at + i) x)
     (earlier : (i : ℕ) → i < at → AllHold holds list i) where
@@ -118,6 +119,6 @@ module _ (holds block : ℕ → Rule → Bool) (list : List Rule) (at : ℕ) (sa
     },
   )
 
-  -- what is found in it behind the count
+  -- what is found in it lies past the count
   pub block_past : (size count : ℕ) (found : Found) → IsFirstFalse block list size (Some found) → count ≤ at + found.index → IsFirstFalse holds list count None
   block_past size count found f past = λ i h. at_index i found.index f.1 (omega (arith, h, past))

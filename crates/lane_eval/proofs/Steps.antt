@@ -23,7 +23,7 @@ filled_more p w vs v gates i gate is h room told made =
     ∙ (ap (λ (b : Bool). values w [] (take i gates) ++ b ∷ []) (made ∙ ap (λ (xs : List Bool). gate_value w xs gate) told)
     ∙ sym (values_more w gates i gate is h))))
 
--- a slice of a vector that was lent as a whole and came back
+-- a slice of a vector that was borrowed whole and returned
 pub lent : {A : Type 0} (n : ℕ) (new old : List A) → length new ≡ n → take n (new ++ drop (length new) old) ≡ new
 lent n new old size = take-append-le n new (drop (length new) old) (omega (arith, size)) ∙ take_all n new (omega (arith, size))
 
@@ -40,7 +40,7 @@ pub filled_last : (n : Gates) (w : List Bool) (p : ℕ) (vs : List (List ℕ)) (
     → b ≡ gate_value w (across p (take i vs)) gate → b ≡ truth n i w
 filled_last n w p vs i gate b is h told made = made ∙ (ap (λ (xs : List Bool). gate_value w xs gate) told ∙ sym (truth_last n w i gate is h))
 
--- the truth of a gate where all gates are evaluated
+-- the truth of a gate once all gates are evaluated
 pub place_truth : (n : Gates) (p gate : ℕ) (vs : List (List ℕ)) (w : List Bool) → gate < length n.gates → length vs ≡ length n.gates → across p vs ≡ truths n w
     → lane_bit p (get_or vs gate []) ≡ truth n gate w
 unfolding truth

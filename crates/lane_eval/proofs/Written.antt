@@ -34,7 +34,7 @@ bit_clear word k j bit zero_bit h small = by (cases_eq j k)
         ap (bit_test (bit_and word (2 ^ 64 - 1 - 1 * 2 ^ k % 2 ^ 64))) same ∙ (ap (λ n. n == 1) (bit_at_clear_same w64 word k h) ∙ (sym zero_bit ∙ sym (chosen_same j k bit (bit_test word j) same)))
     by (inr other) = ap (λ n. n == 1) (bit_at_clear_other w64 word k h j small other) ∙ sym (chosen_other j k bit (bit_test word j) other)
 
--- a word of a vector is written in which one bit is
+-- in a word of a vector one bit is written
 pub word_put : (v : List ℕ) (p q w : ℕ) (truth : Bool) → length v ≡ 8 → p < 512 → q < 512
     → ((j : ℕ) → j < 64 → bit_test w j ≡ (if j == p % 64 then truth else bit_test (get_or v (p / 64) 0) j))
     → lane_bit q (set v (p / 64) w) ≡ (if q == p then truth else lane_bit q v)
@@ -78,7 +78,7 @@ unfolding lane_bit
 full_word v l p full e =
     ap (λ i. bit_test (get_or v i 0) (p % 64)) e ∙ (ap (λ x. bit_test x (p % 64)) full ∙ ap (λ n. n == 1) (bit_at_ones 64 (p % 64) (omega arith)))
 
--- of another word the ones at its lower end are true, and the place behind them is false
+-- in another word the ones at its lower end are true, and the place after them is false
 pub ones_of : (v : List ℕ) (l word p : ℕ) → get_or v l 0 ≡ word → word + 1 < 2 ^ 64 → 64 * l ≤ p → p < 64 * l + trailing_ones w64 word → lane_bit p v ≡ true
 unfolding lane_bit
 ones_of v l word p is less low high =

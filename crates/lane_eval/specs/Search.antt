@@ -12,7 +12,7 @@ use Rattle.lane_eval.specs.declared.search.Found.{Found}
 abbrev pub RulesHaveGates : Gates → List Rule → Type 0
 RulesHaveGates n list = (k : ℕ) (x : Rule) → slice_get list k ≡ Some x → x.gate < length n.gates
 
--- whether a rule is true of valuation i of a seed, drawn for the rules' instruction set and their net's atoms
+-- whether a rule is true at valuation i of a seed, drawn for the rules' instruction set and their net's atoms
 abbrev pub holds_drawn : Rules → ℕ → ℕ → Rule → Bool
 holds_drawn r seed i x = truth r.net x.gate (valuation r.variant (r.net.vars - bit_count) seed i)
 

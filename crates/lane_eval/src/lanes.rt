@@ -9,7 +9,7 @@ use std::marker::Model;
 use std::simd::u64x8;
 use y86_base::Memory;
 
-/// One truth in all places.
+/// The same truth in all places.
 #[tactic(auto, using(crate::proofs::Bits::place_all, crate::proofs::Bits::place_none))]
 fn every(truth: bool) -> u64x8
     ensures { (p : ℕ) → p < 512 → lane_bit p result ≡ truth }
@@ -64,7 +64,7 @@ fn fill(n: &Net, count: u64, lanes: &[u64x8], truths: &mut [u64x8])
     }
 }
 
-/// Room for the truths of the gates of a net in 512 places: a vector for each gate, 64 bytes.
+/// Memory for the truths of a net's gates in 512 places: a vector of 64 bytes for each gate.
 #[derive(Drop)]
 pub struct Scratch {
     truths: Vec<u64x8>,
@@ -79,7 +79,7 @@ impl Model for Scratch {
 }
 
 impl Scratch {
-    /// Room for a net.
+    /// Memory for a net.
     pub fn new(alloc: Global, n: &Net) -> Result<Scratch, Memory>
         ensures { IfOk result (λ s. length s ≡ length n.now.gates) }
     {
@@ -113,8 +113,8 @@ impl Scratch {
     }
 }
 
-/// The truths of gate `gate` at 512 valuations: bit p % 64 of word p / 64 is its truth at the valuation whose bits stand in the
-/// same place of each entry of `lanes`, one for each variable. It takes no memory.
+/// The truths of gate `gate` at 512 valuations. Bit p % 64 of word p / 64 is its truth at the valuation whose bits
+/// are in place p of the entries of `lanes`, which has one entry for each variable. It allocates no memory.
 pub fn eval512(n: &Net, gate: u64, lanes: &[u64x8], s: &mut Scratch) -> u64x8
     requires gate { gate < length n.now.gates }
     requires variables { length lanes.now ≡ n.now.vars }

@@ -1,5 +1,5 @@
-//! Gates of a net at 512 valuations at once. A vector of 512 bits holds the truths of one gate, or of one variable: bit p % 64
-//! of word p / 64 is the truth in place p.
+//! The gates of a net at 512 valuations at once, to search many drawn valuations for a false rule. A vector of 512 bits
+//! holds the truths of one gate, or of one variable: bit p % 64 of word p / 64 is the truth in place p.
 #![tactic(auto)]
 
 mod lanes;

@@ -1,4 +1,5 @@
-//! One place of vectors: written in each of several, and the first one in which a vector is false.
+//! One place of vectors: it is written in each of several vectors, and the first place in which a vector is false is
+//! found.
 ghost use Rattle.std.specs.Prelude.{◌≡◌, ◌≢◌, ◌<◌, ◌≤◌, ◌==◌, ℕ, true, false, length, if◌then◌else◌};
 ghost use Rattle.lane_eval.specs.Lanes.{across, bit_test, lane_bit};
 
@@ -12,7 +13,7 @@ pub(crate) fn with_bit(word: u64, k: u64, bit: bool) -> u64
     if bit { word | 1 << k } else { word & !(1 << k) }
 }
 
-/// A vector with the truth of one of its places put.
+/// A vector with a truth written in one of its places.
 fn with_truth(vector: u64x8, p: u64, truth: bool) -> u64x8
     requires { p < 512 }
     ensures { (q : ℕ) → q < 512 → lane_bit q result ≡ (if q == p then truth else lane_bit q vector) }
@@ -35,7 +36,7 @@ pub fn put_place(lanes: &mut [u64x8], p: u64, truths: &[bool])
     }
 }
 
-/// The first place of a vector that is false, and 512 where none is.
+/// The first place in which a vector is false; 512 if there is none.
 pub fn first_false_place(vector: u64x8) -> u64
     ensures within { result ≤ 512 }
     ensures before { (p : ℕ) → p < result → lane_bit p vector ≡ true }

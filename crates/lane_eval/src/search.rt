@@ -1,4 +1,4 @@
-//! The first rule that is false of a drawn valuation: 512 valuations at once, block after block.
+//! The first rule that is false at a drawn valuation: 512 valuations at once, block after block.
 ghost use Rattle.std.specs.Prelude.{◌≡◌, ◌<◌, ◌≤◌, ◌+◌, ◌-◌, ◌==◌, ℕ, length, slice_get, IfOk};
 ghost use Rattle.pipe_fields.specs.Layout.{bit_count};
 ghost use Rattle.lane_eval.specs.Lanes.{across, along, lane_bit};
@@ -14,7 +14,7 @@ use std::alloc::Global;
 use std::simd::u64x8;
 use y86_base::{Memory, Variant};
 
-/// A rule that is false of a drawn valuation: the valuation's index, and the rule's number.
+/// A rule that is false at a drawn valuation: the valuation's index, and the rule's number.
 #[derive(Clone, Copy, Debug, PartialEq, Eq)]
 pub struct Found {
     pub index: u64,
@@ -71,7 +71,7 @@ fn first_of(list: &[Rule], s: &Scratch) -> Option<Found>
     }
 }
 
-/// The first of 512 valuations of a seed of which some rule is false, and the first such rule.
+/// The first of 512 valuations of a seed at which some rule is false, and the first such rule.
 fn search_block(
     r: &Rules,
     seed: u64,
@@ -94,7 +94,7 @@ fn search_block(
     first_of(r.list.items(), s)
 }
 
-/// So many words, bits and vectors that are 0.
+/// A vector of `n` zeros.
 fn zeros<T: Copy>(alloc: Global, zero: T, n: u32) -> Result<Vec<T>, Memory>
     ensures { IfOk result (λ v. length v.items ≡ n) }
 {
@@ -107,8 +107,8 @@ fn zeros<T: Copy>(alloc: Global, zero: T, n: u32) -> Result<Vec<T>, Memory>
     Ok(v)
 }
 
-/// The least index below `count` at whose valuation of `seed` some rule is false, and the first such rule; `None` where there
-/// is none. The rules' net has a variable for each bit of a control valuation's fields, and one for each atom.
+/// The least index below `count` at whose valuation of `seed` some rule is false, and the first such rule; `None` if
+/// there is none. The rules' net has a variable for each bit of a control valuation's fields, and one for each atom.
 pub fn first_false(alloc: Global, r: &Rules, seed: u64, count: u64) -> Result<Option<Found>, Memory>
     requires fields { bit_count ≤ r.now.net.vars }
     requires atoms { r.now.net.vars ≤ bit_count + 64 }

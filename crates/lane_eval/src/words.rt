@@ -5,7 +5,7 @@ ghost use Rattle.lane_eval.specs.Lanes.{across, along, bit_test, lane_bit};
 use crate::places::with_bit;
 use std::simd::u64x8;
 
-/// A word shifted down by one place, with a truth in its last one.
+/// A word shifted down by one place, with a truth in its last place.
 fn shifted(word: u64, truth: bool) -> u64
     ensures last { bit_test result 63 ≡ truth }
     ensures others { (j : ℕ) → j < 63 → bit_test result j ≡ bit_test word (j + 1) }
@@ -13,7 +13,7 @@ fn shifted(word: u64, truth: bool) -> u64
     with_bit(word >> 1, 63, truth)
 }
 
-/// Shifts each word down by one place, and puts a truth into its last one.
+/// Shifts each word down by one place, and puts a truth into its last place.
 pub(crate) fn shift_in(words: &mut [u64], truths: &[bool])
     requires size { length truths.now ≡ length words.old }
     ensures last { along 63 words.new ≡ truths.now }
@@ -24,7 +24,7 @@ pub(crate) fn shift_in(words: &mut [u64], truths: &[bool])
     }
 }
 
-/// A vector with one of its words put.
+/// A vector with one of its words replaced.
 fn with_word(vector: u64x8, l: u64, word: u64) -> u64x8
     requires { l < 8 }
     ensures { (q : ℕ) → q < 512 → lane_bit q result ≡ (if q / 64 == l then bit_test word (q % 64) else lane_bit q vector) }

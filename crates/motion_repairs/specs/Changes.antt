@@ -46,18 +46,18 @@ stall_bubble_signals =
 abbrev pub pc_sources : List ℕ
 pc_sources = signal.F_predPC ∷ signal.E_valC ∷ signal.E_valA ∷ signal.M_valE ∷ signal.M_valA ∷ signal.m_valM ∷ signal.W_valM ∷ []
 
--- the control values, of which f_pc picks this name
+-- the control values, with this name picked by f_pc
 abbrev pub with_pc : ℕ → List Leaf → List Leaf
 with_pc source leaves = slice_set leaves signal.f_pc (Name source)
 
--- whether they are met where f_pc picks this name
+-- whether they are met if f_pc picks this name
 unfoldable pub is_pc_repair : Variant → Settings → Fields → Flow → RegisterControls → Assignment → List Leaf → ℕ → Bool
 is_pc_repair v s c y mv α leaves source = meets_motion v s c y mv α (at (with_pc source leaves))
 
--- the names of which each, picked by f_pc, meets them all
+-- the names that each, picked by f_pc, meet them all
 unfoldable pub pc_repairs : Variant → Settings → Fields → Flow → RegisterControls → Assignment → List Leaf → List ℕ
 pc_repairs v s c y mv α leaves = filter (is_pc_repair v s c y mv α leaves) pc_sources
 
--- the signals of which each, inverted alone, meets them all
+-- the signals that each, inverted alone, meet them all
 unfoldable pub signal_repairs : Variant → Settings → Fields → Flow → RegisterControls → Assignment → (ℕ → Leaf) → List ℕ
 signal_repairs v s c y mv α cv = filter (λ name. meets_motion v s c y (with_inverted name mv) α cv) stall_bubble_signals

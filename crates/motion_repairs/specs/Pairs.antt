@@ -15,12 +15,12 @@ use Rattle.motion_repairs.specs.Changes.{meets_motion, is_pc_repair, pc_repairs,
 abbrev pub pairs_with : ℕ → List ℕ → List Pair
 pairs_with first seconds = map (λ second. record { first = first; second = second }) seconds
 
--- each two of some names, in their order
+-- each pair of two of the names, in their order
 unfoldable pub pairs_of : List ℕ → List Pair
 pairs_of [] = []
 pairs_of (first ∷ rest) = pairs_with first rest ++ pairs_of rest
 
--- each of some names with each of some others
+-- each of the first names with each of the second ones
 unfoldable pub combinations : List ℕ → List ℕ → List Pair
 combinations [] seconds = []
 combinations (first ∷ rest) seconds = pairs_with first seconds ++ combinations rest seconds
@@ -30,7 +30,7 @@ module _ (v : Variant) (s : Settings) (c : Fields) (y : Flow) (mv : RegisterCont
   unfoldable pub is_met_by_both : Pair → Bool
   is_met_by_both pair = meets_motion v s c y (with_inverted pair.second (with_inverted pair.first mv)) α (at leaves)
 
-  -- whether they are met with the first name inverted, where f_pc picks the second one
+  -- whether they are met with the first name inverted, if f_pc picks the second one
   unfoldable pub is_met_with_pc : Pair → Bool
   is_met_with_pc pair = is_pc_repair v s c y (with_inverted pair.first mv) α leaves pair.second
 
@@ -46,7 +46,7 @@ module _ (v : Variant) (s : Settings) (c : Fields) (y : Flow) (mv : RegisterCont
   unfoldable pub needs_two : Bool
   needs_two = length (signal_repairs v s c y mv α (at leaves)) == 0 && length (pc_repairs v s c y mv α leaves) == 0
 
-  -- All changes that meet them all; two changes are listed where no change alone meets them.
+  -- All changes that meet them all; pairs are listed only if no single change meets them.
   pub record AreRepairs (r : Repairs) : Type 0 where
     pub invert : r.invert ≡ signal_repairs v s c y mv α (at leaves)
     pub f_pc : r.f_pc ≡ pc_repairs v s c y mv α leaves

@@ -153,7 +153,7 @@ fn put(out: &mut Vec<NameId>, signal: NameId) -> Result<(), Memory>
     }
 }
 
-/// The signals of which each, inverted alone, meets all obligations on motion.
+/// The signals that each, inverted alone, meet all obligations on motion.
 #[tactic(auto, unfolding(crate::specs::Changes::signal_repairs))]
 pub fn signal_repairs(alloc: Global, n: &Now<'_>) -> Result<Vec<NameId>, Memory>
     ensures { IfOk result (λ r. r.items ≡ spec.signal_repairs n.now.v n.now.s.now (fields_in n.now.l.now) (as_flow n.now.y.now) (as_register_controls n.now.mv.now) unread (at n.now.leaves.now)) }
@@ -170,7 +170,7 @@ pub fn signal_repairs(alloc: Global, n: &Now<'_>) -> Result<Vec<NameId>, Memory>
     Ok(out)
 }
 
-/// The control values, of which `f_pc` picks another name.
+/// The control values, with another name picked by `f_pc`.
 fn with_pc(alloc: Global, leaves: &[Leaf], source: NameId) -> Result<Vec<Leaf>, Memory>
     ensures { IfOk result (λ r. r.items ≡ spec.with_pc source leaves.now) }
 {
@@ -184,7 +184,7 @@ fn with_pc(alloc: Global, leaves: &[Leaf], source: NameId) -> Result<Vec<Leaf>, 
     Ok(copy)
 }
 
-/// Whether the obligations on motion are met where `f_pc` picks this name.
+/// Whether the obligations on motion are met if `f_pc` picks this name.
 #[tactic(auto, unfolding(crate::specs::Changes::is_pc_repair))]
 pub(crate) fn is_repaired_by_pc(alloc: Global, n: &Now<'_>, source: NameId) -> Result<bool, Memory>
     ensures { IfOk result (λ met. met ≡ spec.is_pc_repair n.now.v n.now.s.now (fields_in n.now.l.now) (as_flow n.now.y.now) (as_register_controls n.now.mv.now) unread n.now.leaves.now source) }
@@ -218,7 +218,7 @@ pub(crate) fn pc_sources() -> &'static [NameId]
     &PC_SOURCES
 }
 
-/// The names of which each, picked by `f_pc`, meets all obligations on motion.
+/// The names that each, picked by `f_pc`, meet all obligations on motion.
 #[tactic(auto, unfolding(crate::specs::Changes::pc_repairs))]
 pub fn pc_repairs(alloc: Global, n: &Now<'_>) -> Result<Vec<NameId>, Memory>
     ensures { IfOk result (λ r. r.items ≡ spec.pc_repairs n.now.v n.now.s.now (fields_in n.now.l.now) (as_flow n.now.y.now) (as_register_controls n.now.mv.now) unread n.now.leaves.now) }

@@ -1,4 +1,4 @@
-//! Whether the fetch is that of the next instruction, and what D loads of it.
+//! Whether the fetch is that of the next instruction, and what D loads from it.
 ghost use Rattle.std.specs.Prelude.{◌≡◌, ◌≤◌};
 ghost use Rattle.control_values.specs.Given.{at};
 ghost use Rattle.ctl_atoms.specs.declared.leaf.Leaf.TheVariants as leaf;
@@ -21,7 +21,7 @@ pub(crate) fn picks_leaf(leaves: &[Leaf], n: NameId, other: NameId) -> bool
     same_leaf(leaf_at(leaves, n), Leaf::Name(other))
 }
 
-/// The number of a code.
+/// The number of a code; a name counts as 15.
 fn code_of(leaf: Leaf) -> u64
     ensures { result ≡ rule.code_of leaf }
 {
@@ -79,7 +79,7 @@ pub fn is_fetch_good(n: &Now<'_>) -> bool
         && ((picks_leaf(n.leaves, name::F_PC, name::HELD_F_PRED_PC) && path(n.y)) || right)
 }
 
-/// What D loads of a good fetch.
+/// What D loads from a good fetch.
 pub fn fetched(n: &Now<'_>) -> StageFlowNow
     ensures { as_stage_flow result ≡ rule.fetched n.now.v n.now.s.now (fields_in n.now.l.now) (as_flow n.now.y.now) (as_register_controls n.now.mv.now) unread (at n.now.leaves.now) }
 {

@@ -1,4 +1,4 @@
-//! The next cycle's flow, and the obligations 23 to 27, as truths of what stands in the stages.
+//! The next cycle's flow, and the obligations 23 to 27, computed from the flow of the stages.
 ghost use Rattle.std.specs.Prelude.{◌≡◌, ◌≤◌, ◌==◌, if◌then◌else◌, true};
 ghost use Rattle.pipe_requirements.specs.Flows.{as_register_control, as_register_controls, as_stage_flow, as_flow};
 ghost use Rattle.pipe_motion.specs.Flow as spec;
@@ -7,7 +7,7 @@ use pipe_requirements::{
     FlowNow, Now, RegisterControlNow, RegisterControlsNow, StageFlowNow, leaves, loads,
 };
 
-/// A truth of a register after the cycle.
+/// A truth about a register after the cycle.
 fn moved_truth(k: RegisterControlNow, old: bool, loaded: bool) -> bool
     ensures { result ≡ spec.moved_truth (as_register_control k) old loaded }
 {
@@ -59,7 +59,7 @@ fn entering_w(s: &StageFlowNow) -> StageFlowNow
     }
 }
 
-/// The next cycle's flow, by whether the fetch is good and what it fetches.
+/// The next cycle's flow; `good` says whether the fetch is good, `facts` are those of the fetched instruction.
 #[tactic(auto, unfolding(pipe_motion::specs::Flow::moved_flow))]
 pub fn next_flow(k: &RegisterControlsNow, good: bool, facts: &StageFlowNow, y: &FlowNow) -> FlowNow
     ensures { as_flow result ≡ spec.moved_flow (as_register_controls k.now) (spec.fetched_flow good (as_stage_flow facts.now)) (as_flow y.now) }
@@ -74,7 +74,7 @@ pub fn next_flow(k: &RegisterControlsNow, good: bool, facts: &StageFlowNow, y: &
     }
 }
 
-/// No good instruction stops but the youngest.
+/// Only the youngest good instruction stops.
 fn stops_alone(y: &FlowNow) -> bool
     ensures { result ≡ spec.youngest_stops_alone (as_flow y.now) }
 {
@@ -83,7 +83,7 @@ fn stops_alone(y: &FlowNow) -> bool
             && !(y.w.stops && ((y.d.good || y.e.good) || y.m.good)))
 }
 
-/// Wrong instructions may stand behind the youngest good one.
+/// Wrong instructions may follow the youngest good one.
 fn wrong_may_follow(y: &FlowNow) -> bool
     ensures { result ≡ spec.wrong_may_follow (as_flow y.now) }
 {
@@ -98,7 +98,7 @@ fn wrong_may_follow(y: &FlowNow) -> bool
     }
 }
 
-/// D and E are wrong only behind such an instruction.
+/// D and E hold wrong instructions only where these may follow.
 fn wrong_has_reason(y: &FlowNow) -> bool
     ensures { result ≡ spec.wrong_has_reason (as_flow y.now) }
 {
@@ -131,7 +131,7 @@ fn flow_legal(je: bool, rm: bool, y: &FlowNow) -> bool
             && (wrong_has_reason(y) && (missed_is_youngest(je, y) && ret_is_youngest(rm, y))))
 }
 
-/// The instruction goes on where it was predicted to.
+/// The run continues at the PC that was predicted after this instruction.
 fn follows(s: &StageFlowNow) -> bool
     ensures { result ≡ spec.follows_prediction (as_stage_flow s.now) }
 {
@@ -175,7 +175,7 @@ pub fn youngest_stops(y: &FlowNow) -> bool
     of_youngest(y, y.d.stops, y.e.stops, y.m.stops, y.w.stops)
 }
 
-/// Not stalled and bubbled at once.
+/// The register isn't both stalled and bubbled.
 fn stall_excludes_bubble(k: RegisterControlNow) -> bool
     ensures { result ≡ spec.stall_excludes_bubble (as_register_control k) }
 {
@@ -191,7 +191,7 @@ fn met_23(k: &RegisterControlsNow) -> bool
                 && (stall_excludes_bubble(k.m) && stall_excludes_bubble(k.w))))
 }
 
-/// A good instruction goes on.
+/// A good instruction goes on to the next register.
 fn passes_on(next: RegisterControlNow, own: RegisterControlNow, s: &StageFlowNow) -> bool
     ensures { result ≡ spec.passes_on (as_register_control next) (as_register_control own) (as_stage_flow s.now) }
 {
@@ -212,7 +212,7 @@ fn met_24(k: &RegisterControlsNow, y: &FlowNow) -> bool
         && (passes_on(k.w, k.m, &y.m) && (passes_on(k.m, k.e, &y.e) && goes_or_stays(k, y)))
 }
 
-/// Where the path will hold.
+/// If the path holds next: F loads if D loads a good fetch, else F is stalled and the path holds now.
 fn path_is_kept(k: &RegisterControlsNow, good: bool, now: bool, next: bool) -> bool
     ensures { result ≡ spec.path_is_kept (as_register_controls k.now) good now next }
 {

@@ -14,23 +14,23 @@ use pipe_requirements::Now;
 use std::alloc::Global;
 use y86_base::{Items, Memory};
 
-/// Two changes made together: a signal that is inverted, and another one, or a name that `f_pc` picks.
+/// Two changes made together: an inverted signal, and another one or a name that `f_pc` picks.
 #[derive(Clone, Copy, Debug, PartialEq, Eq)]
 pub struct Pair {
     pub first: NameId,
     pub second: NameId,
 }
 
-/// The changes that meet all obligations on motion. Two changes are listed where no change alone meets them.
+/// The changes that meet all obligations on motion. Pairs are listed only if no single change meets them.
 #[derive(Drop)]
 pub struct Repairs {
-    /// The stall and bubble signals of which each, inverted alone, meets them.
+    /// The stall and bubble signals that each, inverted alone, meet them.
     pub invert: Items<NameId>,
-    /// The names of which each, picked by `f_pc`, meets them.
+    /// The names that each, picked by `f_pc`, meet them.
     pub f_pc: Items<NameId>,
     /// The pairs of signals that meet them, inverted together.
     pub invert_both: Items<Pair>,
-    /// The signals that, inverted, meet them where `f_pc` picks the second name.
+    /// The signals that, inverted, meet them if `f_pc` picks the second name.
     pub invert_and_f_pc: Items<Pair>,
 }
 
@@ -60,7 +60,7 @@ fn put_pairs(out: &mut Vec<Pair>, first: NameId, seconds: &[NameId]) -> Result<(
     Ok(())
 }
 
-/// Each two of some names.
+/// Each pair of two of the names.
 #[tactic(auto, unfolding(crate::specs::Pairs::pairs_of))]
 fn pairs_of(alloc: Global, names: &[NameId]) -> Result<Vec<Pair>, Memory>
     ensures { IfOk result (λ r. r.items ≡ spec.pairs_of names.now) }
@@ -76,7 +76,7 @@ fn pairs_of(alloc: Global, names: &[NameId]) -> Result<Vec<Pair>, Memory>
     Ok(out)
 }
 
-/// Each of some names with each of some others.
+/// Each of the first names with each of the second ones.
 #[tactic(auto, unfolding(crate::specs::Pairs::combinations))]
 fn combinations(alloc: Global, firsts: &[NameId], seconds: &[NameId]) -> Result<Vec<Pair>, Memory>
     ensures { IfOk result (λ r. r.items ≡ spec.combinations firsts.now seconds.now) }
@@ -108,7 +108,7 @@ fn is_met_by_both(n: &Now<'_>, pair: Pair) -> bool
     is_repaired(&other, pair.second)
 }
 
-/// Whether they are met with the first name inverted, where `f_pc` picks the second one.
+/// Whether they are met with the first name inverted, if `f_pc` picks the second one.
 #[tactic(auto, unfolding(crate::specs::Pairs::is_met_with_pc))]
 fn is_met_with_pc(alloc: Global, n: &Now<'_>, pair: Pair) -> Result<bool, Memory>
     ensures { IfOk result (λ met. met ≡ spec.is_met_with_pc n.now.v n.now.s.now (fields_in n.now.l.now) (as_flow n.now.y.now) (as_register_controls n.now.mv.now) unread n.now.leaves.now pair) }

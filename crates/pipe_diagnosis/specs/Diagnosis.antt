@@ -18,7 +18,7 @@ use Rattle.pipe_requirements.specs.Requirements.{requirements, unread}
 use Rattle.motion_repairs.specs.Pairs.{AreRepairs}
 use Rattle.pipe_diagnosis.specs.declared.diagnosis.Diagnosis.{Diagnosis}
 
--- Obligation i is false of the valuation that the bits spell.
+-- Obligation i is false at the valuation that the bits spell.
 abbrev pub Fails : Variant → List Term → Settings → List Atom → ℕ → List Bool → Type 0
 Fails v terms s atoms i w = (α : Assignment) (cv : ℕ → Leaf) → AtomsAre atoms bit_count w α → PipeControls terms (fields_of w) α cv → obligation v s atoms i (fields_of w) α cv ≡ false
 
@@ -30,7 +30,7 @@ pub record IsDiagnosis (v : Variant) (terms : List Term) (s : Settings) (atoms :
   -- a finding for each requirement; an obligation from 23 on has none
   pub findings : diagnosis.findings
       ≡ map (finding signal.f_pc terms (assigned atoms bit_count w) (at diagnosis.leaves)) (requirements v s (fields_of w) (flow_of v s (fields_of w)) (register_controls_of (assigned atoms bit_count w) (at diagnosis.leaves)) (at diagnosis.leaves) i)
-  -- of an obligation from 1 to 22 at least one isn't met
+  -- of the requirements of an obligation from 1 to 22, at least one isn't met
   pub one_wrong : i ≤ 22 → are_right diagnosis.findings ≡ false
   -- the changes that would meet all obligations on motion
   pub repairs : AreRepairs v s (fields_of w) (flow_of v s (fields_of w)) (register_controls_of (assigned atoms bit_count w) (at diagnosis.leaves)) unread diagnosis.leaves diagnosis.repairs

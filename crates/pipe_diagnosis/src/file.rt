@@ -1,9 +1,9 @@
-//! A file for PIPE, as its obligations are asked of it.
+//! A file for PIPE, with all that its obligations depend on.
 use hcl_types::{Design, Order};
 use pipe_motion::Settings;
 use y86_base::Variant;
 
-/// A file for PIPE, the instruction set that its obligations are asked for, and the file's settings.
+/// A file for PIPE, the instruction set that it has to implement, and the file's settings.
 #[derive(Clone, Copy)]
 pub struct PipeFile<'a> {
     /// The instruction set.

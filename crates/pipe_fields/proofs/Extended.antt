@@ -4,7 +4,7 @@ use Rattle.std.proofs.lemmas.Result.{IfOk-weaker}
 use Rattle.nets.specs.Nets.{Gates, IsGate, truth}
 use Rattle.net_fields.proofs.Fields.{gate_as}
 
--- what the earlier one is, stands in its place
+-- the meaning of the earlier gate can replace its truth
 pub extended : {mid last : Gates} {x g : ℕ} {p : List Bool → Bool} (q : List Bool → Bool) → IsGate mid x p → IsGate last g (λ w. truth mid x w && q w) → IsGate last g (λ w. p w && q w)
 extended q a made = gate_as made (λ w. ap (λ (b : Bool). b && q w) (a.is w))
 

@@ -1,4 +1,4 @@
--- The icode of a line that bits spell is below 16; and what holds below a number.
+-- The icode of a line that bits spell is below 16; and properties of the numbers below a bound.
 use Rattle.std.proofs.Common.{◌≡◌, ℕ, ◌+◌, ◌-◌, ◌<◌, ◌&&◌, Bool, List, ◌∙◌, ap, arith}
 use Rattle.net_fields.proofs.Icodes.{each_next}
 use Rattle.net_fields.specs.Icodes.{each_below}

@@ -7,13 +7,13 @@ use Rattle.y86_isa.specs.Table.{rows, row, inop, no_register}
 use Rattle.net_fields.specs.AllowedNumbers.{reading_allowed, register_field_allowed, register_allowed, shares_register, destination_allowed, cnd_allowed, cnd_allowed_where, zero_unless, stat_allowed, codes_allowed}
 use Rattle.pipe_fields.specs.Layout.{FetchLine, DecodeLine, ExecuteLine, MemoryLine, WriteLine, Fields, bubble, good}
 
--- ---- the lines of instructions, by the row of their icode, of a table with so many rows
+-- ---- the lines of instructions, by the row of their icode, in a table with `count` rows
 
 -- an instruction that is good and has no fault so far; the hidden bits of others are 0
 abbrev pub is_good_aok : ℕ → ℕ → Bool
 is_good_aok kind stat = kind == good && stat == 1
 
--- what is fetched; with an error it is a nop, which is no jump and stops nowhere
+-- what is fetched; after a fetch error it is a nop, which is no jump and can't stop at memory
 unfoldable pub fetch_row_allowed : ℕ → ℕ → Row → FetchLine → Bool
 fetch_row_allowed count icode r x =
     reading_allowed count r x.error icode x.ifun
@@ -30,7 +30,7 @@ decode_row_allowed count icode r x =
     && zero_unless (is_good_aok x.kind x.stat && accesses r.memory) x.stops
     && zero_unless (is_good_aok x.kind x.stat && next_is_branch r.next) x.back
 
--- the register numbers behind the decode stage, where a move counts as if its condition held
+-- the register numbers after the decode stage; a conditional move counts as if its condition held
 abbrev pub registers_allowed : Row → ExecuteLine → Bool
 registers_allowed r x =
     register_allowed r.dst_e x.dst_e
@@ -56,7 +56,7 @@ memory_row_allowed count icode r x =
     && zero_unless (is_good_aok x.kind x.stat && accesses r.memory) x.error
     && zero_unless (is_good_aok x.kind x.stat && next_is_branch r.next) x.back
 
--- a move's destination may be lost, and an error at memory leaves the icode as it is
+-- a conditional move may have lost its destination; a memory error leaves the icode unchanged
 unfoldable pub write_row_allowed : ℕ → ℕ → Row → WriteLine → Bool
 write_row_allowed count icode r x =
     stat_allowed count (accesses r.memory) x.stat icode
@@ -69,14 +69,14 @@ abbrev pub decode_bubble : DecodeLine → Bool
 decode_bubble x =
     x.stat == 0 && x.icode == inop && x.ifun == 0 && x.r_a == no_register && x.r_b == no_register && x.taken == 0 && x.stops == 0 && x.back == 0
 
--- e_Cnd of ifun 0 holds
+-- e_Cnd is 1, because the condition of ifun 0 always holds
 abbrev pub execute_bubble : ExecuteLine → Bool
 execute_bubble x =
     x.stat == 0 && x.icode == inop && x.ifun == 0
     && x.dst_e == no_register && x.dst_m == no_register && x.src_a == no_register && x.src_b == no_register
     && x.cnd == 1 && x.stops == 0 && x.back == 0
 
--- M_Cnd is any
+-- M_Cnd can be anything
 abbrev pub memory_bubble : MemoryLine → Bool
 memory_bubble x =
     x.stat == 0 && x.icode == inop && x.ifun == 0 && x.dst_e == no_register && x.dst_m == no_register && x.error == 0 && x.back == 0

@@ -5,7 +5,7 @@ use Rattle.net_fields.specs.declared.field_specs.BitRange.{BitRange}
 use Rattle.y86_isa.specs.Table.{inop, no_register}
 use Rattle.pipe_fields.specs.Layout.{FetchLine, Fields, bubble, bit_count, fields_of, number_of, pattern_of}
 
--- the pattern spells the fields, and what stands behind it is behind the fields' bits
+-- the pattern spells the fields, and `behind` follows the fields' bits
 pub record IsPatternOf (c : Fields) (behind : List Bool) : Type 0 where
   pub spells : fields_of (pattern_of c behind) ≡ c
   pub size : length (pattern_of c behind) ≡ bit_count + length behind

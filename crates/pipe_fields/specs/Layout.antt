@@ -82,13 +82,14 @@ pub record Fields : Type 0 where
 
 -- ---- the table of the fields
 
--- a field: its label in texts, its bits and the row of the signal that it is, if one reads it, and its number
+-- a field: its label in output, its number of bits and the row of its signal (none if it is hidden), and how its
+-- number is read from the fields
 pub record Field : Type 0 where
   pub label : List ℕ
   pub spec : FieldSpec
   pub number : Fields → ℕ
 
--- one that a signal is, and one that no signal reads
+-- a field that is a signal, and a hidden one
 abbrev read_by : List ℕ → ℕ → ℕ → (Fields → ℕ) → Field
 read_by label bits name number = record { label = label; spec = record { bits = bits; name = Some name }; number = number }
 
@@ -166,7 +167,7 @@ all_fields = kind_fields ++ fetch_fields ++ decode_fields ++ execute_fields ++ m
 abbrev pub field_specs : List FieldSpec
 field_specs = map (λ (x : Field). x.spec) all_fields
 
--- with which of them a line begins: F behind the kinds, and each of the others
+-- the index of the first field of each line; F begins after the kinds
 abbrev pub f_first : ℕ
 f_first = length kind_fields
 
@@ -182,14 +183,15 @@ m_first = e_first + length execute_fields
 abbrev pub w_first : ℕ
 w_first = m_first + length memory_fields
 
--- how many they are, and how many bits they have together
+-- the number of fields, and their total number of bits
 abbrev pub field_count : ℕ
 field_count = w_first + length write_fields
 
 abbrev pub bit_count : ℕ
 bit_count = 107
 
--- the fields as numbers in the order of the table, and back: a line from its first number on, behind its kind
+-- the fields as numbers in the order of the table, and back; a line is read from its kind and from the index of its
+-- first number
 abbrev pub numbers : Fields → List ℕ
 numbers c = map (λ (x : Field). x.number c) all_fields
 
@@ -276,7 +278,7 @@ InRange c = table.InRange field_specs (numbers c)
 unfoldable pub fields_of : List Bool → Fields
 fields_of w = fields_by (table.decoded field_specs 0 w)
 
--- bits that spell the fields, and what stands behind them
+-- bits that spell the fields, followed by `behind`
 abbrev pub pattern_of : Fields → List Bool → List Bool
 pattern_of c behind = table.pattern field_specs (numbers c) behind
 
@@ -284,6 +286,6 @@ pattern_of c behind = table.pattern field_specs (numbers c) behind
 unfoldable pub place_of : ℕ → Option BitRange
 place_of name = table.place_from field_specs 0 name
 
--- the number that the fields give a signal, and 0 to one that is no field
+-- the number of the field that a signal is; 0 for a signal that is no field
 unfoldable pub number_of : Fields → ℕ → ℕ
 number_of c name = table.number_among field_specs (numbers c) name

@@ -1,4 +1,4 @@
--- The five lines by one name, as the code goes over them.
+-- The definitions of the five lines with the line as an argument, because the code goes through the lines one by one.
 use Rattle.std.specs.Prelude.{ℕ, Bool, List, length}
 use Rattle.y86_base.specs.declared.parts.Variant.{Variant}
 use Rattle.y86_isa.specs.declared.columns.Row.{Row}

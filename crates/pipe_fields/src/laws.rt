@@ -6,7 +6,7 @@ ghost use Rattle.pipe_fields.specs.Laws.{HasNoRegisters, IsPatternOf, IsPlaceOf,
 ghost use Rattle.pipe_fields.specs.Layout.{FetchLine, Fields, InRange, fields_of, place_of};
 ghost use Rattle.y86_base.specs.declared.parts.Variant.{Variant};
 
-/// Fields in range have a pattern of bits that spells them, whatever stands behind it; and what bits spell is in range.
+/// Fields in range have a pattern of bits that spells them, whatever bits follow; and what bits spell is in range.
 pub fn law_of_patterns()
     ensures pattern { (c : Fields) (behind : List Bool) → InRange c → IsPatternOf c behind }
     ensures range { (w : List Bool) → InRange (fields_of w) }

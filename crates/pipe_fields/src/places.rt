@@ -1,7 +1,7 @@
-//! Where each field of PIPE stands among the variables of a control valuation.
+//! The place of each field of PIPE among the variables of a control valuation.
 use net_fields::BitRange;
 
-/// So many bits from a variable on.
+/// A number of bits from a variable on.
 macro_rules! place {
     ($first:expr, $bits:expr) => {
         BitRange {
@@ -11,7 +11,7 @@ macro_rules! place {
     };
 }
 
-/// Where the line F begins, behind the kinds, and each of the others.
+/// The first bit of line F, after the kinds, and of each other line.
 const F: u32 = 6;
 
 const D: u32 = F + 12;
@@ -102,7 +102,7 @@ pub const W_DST_E: BitRange = place!(W + 7, 4);
 
 pub const W_DST_M: BitRange = place!(W + 11, 4);
 
-/// How many fields are numbers of registers.
+/// The number of fields that are register numbers.
 pub const REGISTER_COUNT: usize = 10;
 
 /// The fields that are numbers of registers, in the order of the variables.
@@ -110,5 +110,5 @@ pub const REGISTERS: [BitRange; REGISTER_COUNT] = [
     D_R_A, D_R_B, E_DST_E, E_DST_M, E_SRC_A, E_SRC_B, M_DST_E, M_DST_M, W_DST_E, W_DST_M,
 ];
 
-/// How many bits the fields have together. The atoms of a control valuation stand behind them.
+/// The total number of bits of the fields. In a control valuation the atoms follow them.
 pub const BIT_COUNT: u32 = W + 15;

@@ -68,7 +68,7 @@ fn and_only_if(b: &mut NetBuilder, all: u64, may: bool, bit: BitRange) -> Result
     b.and(all, only)
 }
 
-/// A jump that is fetched is taken where its condition holds, and no other instruction is.
+/// A fetched jump is taken if its condition holds, and no other instruction is.
 fn fetch_taken(
     b: &mut NetBuilder,
     jump: bool,
@@ -84,7 +84,7 @@ fn fetch_taken(
     cnd_allowed_where(b, jump, always, ifun, taken)
 }
 
-/// A jump without fault in D is taken where its condition holds, and no other instruction is.
+/// A jump without fault in D is taken if its condition holds, and no other instruction is.
 fn decode_taken(b: &mut NetBuilder, jump: bool) -> Result<u64, Memory>
     requires vars { bit_count ≤ b.old.vars }
     ensures extends { ExtendsNet b.old b.new }
@@ -150,7 +150,7 @@ pub fn decode_row_allowed(
     and_live_only(b, all, next_is_branch(row.next), D_KIND, D_STAT, D_BACK)
 }
 
-/// The gate is true, and a field has the number of a register, or none, as a column asks.
+/// The gate is true, and a field is a register number, or none, as the row's column requires.
 fn and_register(
     b: &mut NetBuilder,
     all: u64,
@@ -236,7 +236,7 @@ pub fn memory_row_allowed(
     and_live_only(b, all, next_is_branch(row.next), M_KIND, M_STAT, M_BACK)
 }
 
-/// The destination of valE in W, which a move whose condition didn't hold has lost.
+/// The destination of valE in W. A conditional move whose condition didn't hold has none.
 fn write_destination(b: &mut NetBuilder, row: &Row) -> Result<u64, Memory>
     requires vars { bit_count ≤ b.old.vars }
     ensures extends { ExtendsNet b.old b.new }

@@ -6,8 +6,8 @@ use crate::places as place;
 use dp_signals::pipe_row as row;
 use net_fields::{BitRange, FieldSpec, place_in};
 
-/// The table of the fields, in the order of the variables: the name of each one's place, its label in texts, and the row
-/// of the signal that it is, if one reads it. The macro that is named is called with all rows.
+/// The table of the fields, in the order of the variables. Each row has the name of the field's place, its label in
+/// output, and, unless the field is hidden, the name of its signal. The given macro is called with all rows.
 #[macro_export]
 macro_rules! field_table {
     ($of_rows:ident) => {
@@ -71,7 +71,7 @@ macro_rules! specs {
     };
 }
 
-/// With which of the fields a line begins: F behind the four kinds, and each of the others.
+/// The index of the first field of line F, after the four kinds, and of each other line.
 pub const F_FIRST: usize = 4;
 
 pub const D_FIRST: usize = F_FIRST + 6;
@@ -82,19 +82,19 @@ pub const M_FIRST: usize = E_FIRST + 10;
 
 pub const W_FIRST: usize = M_FIRST + 8;
 
-/// How many fields there are.
+/// The number of fields.
 pub const FIELD_COUNT: usize = W_FIRST + 4;
 
 static SPOTS: [FieldSpec; FIELD_COUNT] = field_table!(specs);
 
-/// The fields in the order of the variables: how many bits each has, and the row of the signal that it is.
+/// The fields in the order of the variables, each with its number of bits and the row of its signal, if it has one.
 pub fn field_specs() -> &'static [FieldSpec]
     ensures { result.now ≡ layout.field_specs }
 {
     &SPOTS
 }
 
-/// The place of the field that a signal is, if it is one.
+/// The place of a signal that is a field; `None` for other signals.
 #[tactic(auto, unfolding(crate::specs::Layout::place_of))]
 pub fn place_of(name: u32) -> Option<BitRange>
     ensures { result ≡ layout.place_of name }

@@ -1,4 +1,4 @@
-//! The gate that tells whether lines are those of a control valuation.
+//! The gate that is true exactly where each line is allowed in a control valuation.
 #![tactic(auto, using(nets::proofs::Truths::begins_more), unfolding(crate::specs::Layout::fields_of, crate::specs::Lines::line_icode_allowed))]
 
 ghost use Rattle.std.specs.Prelude.{◌≡◌, ◌<◌, ◌≤◌, ◌+◌, ◌==◌, ◌&&◌, ◌||◌, not, length, List, Bool, IfOk};
@@ -36,7 +36,7 @@ fn icode_place(line: StageLine) -> BitRange
     }
 }
 
-/// The line is one of an instruction of this icode, with its row.
+/// The line is that of an instruction with this icode and row.
 fn row_fits(
     b: &mut NetBuilder,
     line: StageLine,
@@ -58,7 +58,7 @@ fn row_fits(
     }
 }
 
-/// Where the line has this icode, it fits the icode's row.
+/// If the line has this icode, it fits the icode's row.
 #[tactic(auto, using(nets::proofs::Truths::begins_more), unfolding(crate::specs::Lines::line_icode_allowed))]
 fn at_icode(b: &mut NetBuilder, v: Variant, line: StageLine, icode: u64) -> Result<u64, Memory>
     requires vars { bit_count ≤ b.old.vars }
@@ -72,7 +72,7 @@ fn at_icode(b: &mut NetBuilder, v: Variant, line: StageLine, icode: u64) -> Resu
     here(b, place, icode, fits)
 }
 
-/// Where the icode of the line is below a number, the line fits its row.
+/// If the icode of the line is below a number, the line fits its row.
 fn below_icode(b: &mut NetBuilder, v: Variant, line: StageLine, n: u64) -> Result<u64, Memory>
     requires vars { bit_count ≤ b.old.vars }
     ensures extends { ExtendsNet b.old b.new }

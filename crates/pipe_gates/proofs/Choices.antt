@@ -1,4 +1,4 @@
--- What is made of gates that tell control values.
+-- Gates that are made of gates of control values.
 use Rattle.std.proofs.Common.{◌≡◌, ℕ, Bool, true, false, if◌then◌else◌, List, refl, ap, ◌∙◌, arith}
 use Rattle.nets.specs.Nets.{Gates, ExtendsNet, IsGate, truth}
 use Rattle.ctl_atoms.specs.declared.leaf.Leaf.{Leaf}
@@ -10,7 +10,7 @@ use Rattle.ctl_rules.specs.ControlGates.{IsControlGate}
 use Rattle.ctl_rules.proofs.Kept.{tells_less}
 use Rattle.pipe_gates.specs.GateTruths.{IsAtomGate}
 
--- a gate that is made of three
+-- a gate that joins three others
 pub asked_three : {old new : Gates} {ctl : List Entry} {x y z g : ℕ} {f h k : List Bool → Assignment → (ℕ → Leaf) → Bool} (join : Bool → Bool → Bool → Bool)
     → ExtendsNet old new → IsInside old ctl → IsControlGate old ctl x f → IsControlGate old ctl y h → IsControlGate old ctl z k → IsGate new g (λ w. join (truth old x w) (truth old y w) (truth old z w))
     → IsControlGate new ctl g (λ w α cv. join (f w α cv) (h w α cv) (k w α cv))
@@ -29,7 +29,7 @@ over_more {old} {new} {atoms} {g} k h = record {
   is = λ w α m. k.same g w h.within ∙ h.is w α m;
 }
 
--- one that chooses an older gate where its own test fails
+-- a gate that chooses an older gate where its own test fails
 pub asked_older : {old new : Gates} {ctl : List Entry} {x g : ℕ} {h : List Bool → Assignment → (ℕ → Leaf) → Bool} (test value : List Bool → Assignment → (ℕ → Leaf) → Bool)
     → ExtendsNet old new → IsInside old ctl → IsControlGate old ctl x h → IsControlGate new ctl g (λ w α cv. if test w α cv then value w α cv else truth old x w)
     → IsControlGate new ctl g (λ w α cv. if test w α cv then value w α cv else h w α cv)

@@ -1,4 +1,4 @@
-//! Tests of the number of a field: by a list, and by the row of the icode that it is.
+//! Tests of a field's number: by a list of truths, or, for an icode, by its row.
 ghost use Rattle.std.specs.Prelude.{◌≡◌, ◌≤◌, ◌+◌, false, get_or, IfOk};
 ghost use Rattle.nets.specs.Nets.{ExtendsNet, IsGate};
 ghost use Rattle.net_fields.specs.Spelling.{spelt};
@@ -10,7 +10,7 @@ use nets::NetBuilder;
 use y86_base::{Memory, Variant};
 use y86_isa::row;
 
-/// The list has the truth `true` at the number of the field.
+/// The list is true at the number of the field.
 pub fn listed(b: &mut NetBuilder, list: &[bool], p: BitRange) -> Result<u64, Memory>
     requires { p.first + p.bits ≤ b.old.vars }
     ensures extends { ExtendsNet b.old b.new }
@@ -26,7 +26,7 @@ pub fn listed(b: &mut NetBuilder, list: &[bool], p: BitRange) -> Result<u64, Mem
     Ok(any)
 }
 
-/// The row of the icode that the field is passes the test.
+/// The row of the field's icode passes the test.
 pub fn row_has(
     b: &mut NetBuilder,
     v: Variant,

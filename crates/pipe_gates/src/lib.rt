@@ -1,5 +1,5 @@
-//! Gates that the rules of PIPE share: tests of its fields and of the rows of their icodes, what stands in its stages,
-//! and the stall and bubble signals.
+//! Gates that the rules of PIPE share: tests of its fields and of the rows of their icodes, the flow of its stages, and
+//! the stall and bubble signals.
 #![tactic(auto, using(nets::proofs::Truths::begins_more, nets::proofs::Truths::begins_self))]
 
 mod columns;

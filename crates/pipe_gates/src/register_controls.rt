@@ -1,4 +1,4 @@
-//! The words that stall and bubble, as gates.
+//! The stall and bubble signals, as gates.
 ghost use Rattle.std.specs.Prelude.{◌≡◌, Bool, IfOk, IsTrue, List, length, not, ℕ};
 ghost use Rattle.nets.specs.Nets.{ExtendsNet, Gates};
 ghost use Rattle.ctl_atoms.specs.declared.leaf.Leaf.{Leaf};
@@ -17,7 +17,7 @@ use nets::NetBuilder;
 use pipe_motion::{FlowGates, RegisterControlGates, RegisterControlsGates, leaves_gate};
 use y86_base::Memory;
 
-/// The gates of the words that stall and bubble one register.
+/// The gates of the stall and bubble signals of one register.
 fn register_control_of(ctl: &Controls, stall: NameId, bubble: NameId) -> RegisterControlGates
     requires stall_known { IsTrue (has_gate ctl.now stall) }
     requires bubble_known { IsTrue (has_gate ctl.now bubble) }
@@ -31,7 +31,7 @@ fn register_control_of(ctl: &Controls, stall: NameId, bubble: NameId) -> Registe
     }
 }
 
-/// The gates of the ten words.
+/// The gates of the ten stall and bubble signals.
 pub fn register_controls_of(ctl: &Controls) -> RegisterControlsGates
     requires { Covers pipe_rows ctl.now }
     ensures inside { (net : Gates) → IsInside net ctl.now → HasRegisterControls (length net.gates) result }

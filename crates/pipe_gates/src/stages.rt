@@ -1,4 +1,4 @@
-//! Gates of what stands in D, E, M and W.
+//! Gates of the states of D, E, M and W.
 #![tactic(auto, unfolding(pipe_fields::specs::Layout::fields_of), using(nets::proofs::Truths::begins_more, nets::proofs::Truths::begins_self))]
 
 ghost use Rattle.std.specs.Prelude.{◌≡◌, ◌<◌, ◌≤◌, ◌+◌, not, length, IfOk};
@@ -35,7 +35,7 @@ fn stops(b: &mut NetBuilder, stat: BitRange, fault: BitRange) -> Result<u64, Mem
     b.not(goes_on)
 }
 
-/// A conditional jump that goes on.
+/// A conditional jump with status 1 (AOK).
 pub fn jump(b: &mut NetBuilder, v: Variant, stat: BitRange, icode: BitRange) -> Result<u64, Memory>
     requires stat_place { stat.first + stat.bits ≤ b.old.vars }
     requires icode_place { icode.first + icode.bits ≤ b.old.vars }
@@ -48,7 +48,7 @@ pub fn jump(b: &mut NetBuilder, v: Variant, stat: BitRange, icode: BitRange) -> 
     b.and(running, branch)
 }
 
-/// A jump's way isn't the predicted one.
+/// A jump doesn't go the predicted way.
 fn other_way(
     b: &mut NetBuilder,
     s: &Settings,
@@ -71,7 +71,7 @@ fn other_way(
     b.equal(passed, predicted)
 }
 
-/// The fields of a stage that tell whether its jump was predicted well.
+/// The fields of a stage that decide whether its jump was mispredicted.
 #[derive(Clone, Copy, Debug)]
 struct JumpFields {
     stat: BitRange,
@@ -105,7 +105,7 @@ const JUMP_IN_M: JumpFields = JumpFields {
     back: M_BACK,
 };
 
-/// A jump that takes another way than predicted.
+/// A mispredicted jump.
 fn is_missed(b: &mut NetBuilder, v: Variant, s: &Settings, at: JumpFields) -> Result<u64, Memory>
     requires stat_place { at.stat.first + at.stat.bits ≤ b.old.vars }
     requires icode_place { at.icode.first + at.icode.bits ≤ b.old.vars }
@@ -122,7 +122,7 @@ fn is_missed(b: &mut NetBuilder, v: Variant, s: &Settings, at: JumpFields) -> Re
     b.and(here, other)
 }
 
-/// What stands in a stage, by its kind and gates of what counts of a good instruction.
+/// The state of a stage, by its kind and by the gates of facts that count for a good instruction.
 fn stage_flow(
     b: &mut NetBuilder,
     kind: BitRange,
@@ -151,7 +151,6 @@ fn stage_flow(
     })
 }
 
-/// What stands in D.
 fn decode_flow(b: &mut NetBuilder, v: Variant, s: &Settings) -> Result<StageFlowGates, Memory>
     requires { bit_count ≤ b.old.vars }
     ensures extends { ExtendsNet b.old b.new }
@@ -163,7 +162,6 @@ fn decode_flow(b: &mut NetBuilder, v: Variant, s: &Settings) -> Result<StageFlow
     stage_flow(b, D_KIND, stop, turn, miss)
 }
 
-/// What stands in E.
 fn execute_flow(b: &mut NetBuilder, v: Variant, s: &Settings) -> Result<StageFlowGates, Memory>
     requires { bit_count ≤ b.old.vars }
     ensures extends { ExtendsNet b.old b.new }
@@ -175,7 +173,6 @@ fn execute_flow(b: &mut NetBuilder, v: Variant, s: &Settings) -> Result<StageFlo
     stage_flow(b, E_KIND, stop, turn, miss)
 }
 
-/// What stands in M.
 fn memory_flow(b: &mut NetBuilder, v: Variant, s: &Settings) -> Result<StageFlowGates, Memory>
     requires { bit_count ≤ b.old.vars }
     ensures extends { ExtendsNet b.old b.new }
@@ -187,7 +184,6 @@ fn memory_flow(b: &mut NetBuilder, v: Variant, s: &Settings) -> Result<StageFlow
     stage_flow(b, M_KIND, stop, turn, miss)
 }
 
-/// What stands in W.
 fn write_flow(b: &mut NetBuilder, v: Variant) -> Result<StageFlowGates, Memory>
     requires { bit_count ≤ b.old.vars }
     ensures extends { ExtendsNet b.old b.new }
@@ -200,7 +196,7 @@ fn write_flow(b: &mut NetBuilder, v: Variant) -> Result<StageFlowGates, Memory>
     stage_flow(b, W_KIND, stop, turn, none)
 }
 
-/// What stands in the stages of a valuation.
+/// The flow of the stages of a valuation.
 #[tactic(auto, unfolding(pipe_obligations::specs::StageFlows::flow_of), using(nets::proofs::Truths::begins_more, nets::proofs::Truths::begins_self, pipe_motion::proofs::Kept::stage_flow_kept))]
 pub fn flow_gates(b: &mut NetBuilder, v: Variant, s: &Settings) -> Result<FlowGates, Memory>
     requires { bit_count ≤ b.old.vars }

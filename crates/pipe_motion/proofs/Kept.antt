@@ -20,7 +20,7 @@ flow_kept b v w h = rw (stage_flow_kept b v.d w h.d, stage_flow_kept b v.e w h.e
 pub controls_kept : {old new : Gates} → ExtendsNet old new → (k : RegisterControlsGates) (w : List Bool) → HasRegisterControls (length old.gates) k → register_controls_at new w k ≡ register_controls_at old w k
 controls_kept b k w h = rw (control_kept b k.f w h.f, control_kept b k.d w h.d, control_kept b k.e w h.e, control_kept b k.m w h.m, control_kept b k.w w h.w) refl
 
--- they are in a later net
+-- gates of a net are also gates of a later net
 pub stage_flow_stays : {n m : ℕ} → n ≤ m → (s : StageFlowGates) → HasStageFlow n s → HasStageFlow m s
 stage_flow_stays le s h = record { good = omega (arith, le, h.good); wrong = omega (arith, le, h.wrong); stops = omega (arith, le, h.stops); ret = omega (arith, le, h.ret); missed = omega (arith, le, h.missed) }
 
@@ -33,7 +33,7 @@ control_stays le k h = record { stall = omega (arith, le, h.stall); bubble = ome
 pub controls_stay : {n m : ℕ} → n ≤ m → (k : RegisterControlsGates) → HasRegisterControls n k → HasRegisterControls m k
 controls_stay le k h = record { f = control_stays le k.f h.f; d = control_stays le k.d h.d; e = control_stays le k.e h.e; m = control_stays le k.m h.m; w = control_stays le k.w h.w }
 
--- so they are of a later net what they are of an earlier one
+-- so they have the same meaning in a later net
 pub is_stage_flow_kept : {old new : Gates} {s : StageFlowGates} {f : List Bool → StageFlow} → ExtendsNet old new → IsStageFlow old s f → IsStageFlow new s f
 is_stage_flow_kept {old} {new} {s} b h = record { within = stage_flow_stays b.more s h.within; is = λ w. stage_flow_kept b s w h.within ∙ h.is w }
 

@@ -1,8 +1,8 @@
--- What stands in the pipeline registers D, E, M and W, when that is legal, and how it moves in a cycle.
+-- The states of the pipeline registers D, E, M and W: which are legal together, and how they move in a cycle.
 use Rattle.std.specs.Prelude.{Bool, false, not, ◌&&◌, ◌||◌, if◌then◌else◌}
 
--- what stands in a register: an instruction of the run (good), one that was fetched on the wrong path (wrong), or neither, a
--- bubble. Of a good one: it stops the machine; it is a ret; it is a jump that went another way than predicted.
+-- what a register holds: an instruction of the run (good), one that was fetched on the wrong path (wrong), or
+-- neither, a bubble; for a good one: it stops the machine, it is a ret, it is a mispredicted jump (missed)
 pub record StageFlow : Type 0 where
   pub good : Bool
   pub wrong : Bool
@@ -13,7 +13,7 @@ pub record StageFlow : Type 0 where
 abbrev pub bubble_flow : StageFlow
 bubble_flow = record { good = false; wrong = false; stops = false; ret = false; missed = false }
 
--- D to W. The oldest instruction stands in W, the youngest in D.
+-- the states of D to W; the oldest instruction is in W, the youngest in D
 pub record Flow : Type 0 where
   pub d : StageFlow
   pub e : StageFlow
@@ -25,7 +25,7 @@ abbrev pub empty_flow : Flow
 empty_flow = record { d = bubble_flow; e = bubble_flow; m = bubble_flow; w = bubble_flow }
 
 -- ---- which flows are legal
--- a good instruction is younger than what stands in E, in M, in W
+-- there is a good instruction younger than the one in E, in M, in W
 abbrev pub is_followed_e : Flow → Bool
 is_followed_e v = v.d.good
 
@@ -39,11 +39,11 @@ is_followed_w v = (v.d.good || v.e.good) || v.m.good
 abbrev pub no_good_behind_wrong : Flow → Bool
 no_good_behind_wrong v = not (v.e.wrong && v.d.good)
 
--- no good instruction stops but the youngest
+-- only the youngest good instruction stops
 abbrev pub youngest_stops_alone : Flow → Bool
 youngest_stops_alone v = not (v.e.stops && is_followed_e v) && (not (v.m.stops && is_followed_m v) && not (v.w.stops && is_followed_w v))
 
--- the youngest good instruction, if there is one, stops, and it isn't a ret or it stands in W; or it is a missed jump in E
+-- the youngest good instruction, if there is one, is a missed jump in E; or it stops, and it isn't a ret or is in W
 abbrev pub wrong_may_follow : Flow → Bool
 wrong_may_follow v =
     if v.d.good then v.d.stops && not v.d.ret
@@ -51,7 +51,7 @@ wrong_may_follow v =
     else (if v.m.good then v.m.stops && not v.m.ret
     else v.w.stops))
 
--- D and E are wrong only behind such an instruction
+-- D and E hold wrong instructions only where these may follow
 abbrev pub wrong_has_reason : Flow → Bool
 wrong_has_reason v = not (v.d.wrong || v.e.wrong) || wrong_may_follow v
 
@@ -72,11 +72,11 @@ flow_legal je rm v =
     && ret_is_youngest rm v)))
 
 -- ---- the path
--- the instruction goes on where it was predicted to
+-- the run continues at the PC that was predicted after this instruction
 abbrev pub follows_prediction : StageFlow → Bool
 follows_prediction s = not (s.stops || (s.ret || s.missed))
 
--- a fact of the youngest good instruction, by the facts of those in D, E and M, and of W
+-- a fact of the youngest good instruction, given the facts of D, E, M and W; that of W if there is none
 abbrev pub of_youngest : Flow → Bool → Bool → Bool → Bool → Bool
 of_youngest v d e m w = if v.d.good then d else (if v.e.good then e else (if v.m.good then m else w))
 
@@ -90,7 +90,7 @@ unfoldable pub youngest_stops : Flow → Bool
 youngest_stops v = of_youngest v v.d.stops v.e.stops v.m.stops v.w.stops
 
 -- ---- motion
--- what the file's words ask of a register
+-- the values of a register's stall and bubble signals
 pub record RegisterControl : Type 0 where
   pub stall : Bool
   pub bubble : Bool
@@ -106,7 +106,7 @@ pub record RegisterControls : Type 0 where
 abbrev pub loads : RegisterControl → Bool
 loads k = not (k.stall || k.bubble)
 
--- a truth about a register after the cycle: stalled it stays, bubbled it is false, else it is the loaded one
+-- a truth about a register after the cycle: if stalled it stays, if bubbled it is false, else it is the loaded one
 abbrev pub moved_truth : RegisterControl → Bool → Bool → Bool
 moved_truth k old loaded = if k.stall then old else (if k.bubble then false else loaded)
 
@@ -119,7 +119,7 @@ moved_stage k old loaded = record {
   missed = moved_truth k old.missed loaded.missed;
 }
 
--- what D loads: the facts of the fetched instruction where the fetch is good, else a wrong instruction
+-- what D loads: the facts of the fetched instruction if the fetch is good, else a wrong instruction
 abbrev pub fetched_flow : Bool → StageFlow → StageFlow
 fetched_flow good facts = record {
   good = good;
@@ -129,7 +129,7 @@ fetched_flow good facts = record {
   missed = good && facts.missed;
 }
 
--- M's stage flow as W loads it: a missed jump stands in D, E or M alone
+-- M's state as W loads it: only D, E and M record a missed jump
 abbrev pub entering_w : StageFlow → StageFlow
 entering_w s = record { good = s.good; wrong = s.wrong; stops = s.stops; ret = s.ret; missed = false }
 
@@ -150,7 +150,7 @@ leaves k v = v.d.good && (loads k.e && not k.d.stall)
 abbrev pub stall_excludes_bubble : RegisterControl → Bool
 stall_excludes_bubble k = not (k.stall && k.bubble)
 
--- no register is stalled and bubbled
+-- no register is both stalled and bubbled
 abbrev pub o23 : RegisterControls → Bool
 o23 k = stall_excludes_bubble k.f && (stall_excludes_bubble k.d && (stall_excludes_bubble k.e && (stall_excludes_bubble k.m && stall_excludes_bubble k.w)))
 
@@ -166,29 +166,29 @@ goes_or_stays k v = not v.d.good || (leaves k v || (k.d.stall && not (loads k.e)
 abbrev pub o24 : RegisterControls → Flow → Bool
 o24 k v = not (v.w.good && k.w.stall) && (passes_on k.w k.m v.m && (passes_on k.m k.e v.e && goes_or_stays k v))
 
--- where the path will hold: F loads where a good fetch entered D, and else F stays and the path holds now
+-- if the path holds next: F loads if D loads a good fetch, else F is stalled and the path holds now
 abbrev pub path_is_kept : RegisterControls → Bool → Bool → Bool → Bool
 path_is_kept k good now next = not next || (if loads k.d && good then loads k.f else k.f.stall && now)
 
--- of the next flow: it is legal, nothing wrong stands in M and W, and the path is kept
+-- the next flow is legal, M and W hold no wrong instruction, and the path is kept
 abbrev pub next_is_right : Bool → Bool → RegisterControls → Bool → Flow → Flow → Bool
 next_is_right je rm k good v next = flow_legal je rm next && (not (next.m.wrong || next.w.wrong) && path_is_kept k good (path v) (path next))
 
--- the next flow is right, where the fetch is good or not and these are its facts
+-- the next flow is right; `good` says whether the fetch is good, `facts` are those of the fetched instruction
 abbrev pub o25 : Bool → Bool → RegisterControls → Bool → StageFlow → Flow → Bool
 o25 je rm k good facts v = next_is_right je rm k good v (moved_flow k (fetched_flow good facts) v)
 
 abbrev pub is_bubble : StageFlow → Bool
 is_bubble s = not (s.good || s.wrong)
 
--- bubbles in E, M and W
+-- E, M and W hold bubbles
 abbrev pub is_drained : Flow → Bool
 is_drained v = is_bubble v.e && (is_bubble v.m && is_bubble v.w)
 
--- behind bubbles a good instruction in D leaves
+-- if E, M and W hold bubbles, a good instruction in D leaves
 abbrev pub o26 : RegisterControls → Flow → Bool
 o26 k v = not (v.d.good && is_drained v) || leaves k v
 
--- where all are bubbles, D loads
+-- if all registers hold bubbles, D loads
 abbrev pub o27 : RegisterControls → Flow → Bool
 o27 k v = not (is_bubble v.d && is_drained v) || loads k.d

@@ -20,7 +20,7 @@ register_control_at n w k = record { stall = truth n k.stall w; bubble = truth n
 abbrev pub register_controls_at : Gates → List Bool → RegisterControlsGates → RegisterControls
 register_controls_at n w k = record { f = register_control_at n w k.f; d = register_control_at n w k.d; e = register_control_at n w k.e; m = register_control_at n w k.m; w = register_control_at n w k.w }
 
--- ---- they are gates of the net, of which there are so many
+-- ---- they are gates of a net with `count` gates
 pub record HasStageFlow (count : ℕ) (s : StageFlowGates) : Type 0 where
   pub good : s.good < count
   pub wrong : s.wrong < count

@@ -1,7 +1,7 @@
-//! What stands in the pipeline registers, and what stalls and bubbles them, as gates.
+//! The states of the pipeline registers, and their stall and bubble signals, as gates.
 
-/// The gates of what stands in a pipeline register: a good instruction, a wrong one; of a good one that it stops, is a
-/// ret, is a missed jump.
+/// The gates of a register's state: it holds a good instruction, or a wrong one; and for a good one: it stops, it is a
+/// ret, it is a mispredicted jump (`missed`).
 #[derive(Clone, Copy, Debug)]
 pub struct StageFlowGates {
     pub good: u64,
@@ -20,14 +20,14 @@ pub struct FlowGates {
     pub w: StageFlowGates,
 }
 
-/// The gates of the words that stall and bubble a register.
+/// The gates of a register's stall and bubble signals.
 #[derive(Clone, Copy, Debug)]
 pub struct RegisterControlGates {
     pub stall: u64,
     pub bubble: u64,
 }
 
-/// The gates of the ten words that stall and bubble.
+/// The gates of the ten stall and bubble signals.
 #[derive(Clone, Copy, Debug)]
 pub struct RegisterControlsGates {
     pub f: RegisterControlGates,

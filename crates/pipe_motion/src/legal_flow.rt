@@ -1,4 +1,4 @@
-//! Gates of: a flow of the pipeline is legal, and the path of its youngest good instruction.
+//! Gates for a legal flow of the pipeline, and for its path: the predicted PC is that of the next instruction.
 #![tactic(auto, unfolding(crate::specs::Flow::flow_legal, crate::specs::Flow::path, crate::specs::Flow::youngest_stops), using(nets::proofs::Truths::begins_more, nets::proofs::Truths::begins_self))]
 
 ghost use Rattle.std.specs.Prelude.{◌<◌, ◌&&◌, not, length, IfOk};
@@ -10,7 +10,7 @@ use crate::flow_gates::{FlowGates, StageFlowGates};
 use nets::{NetBuilder, choose, excludes, implies, without};
 use y86_base::Memory;
 
-/// Where E is wrong, D isn't good.
+/// If E holds a wrong instruction, D holds no good one.
 fn good_behind_wrong(b: &mut NetBuilder, v: &FlowGates) -> Result<u64, Memory>
     requires { HasFlow (length b.old.gates) v.now }
     ensures extends { ExtendsNet b.old b.new }
@@ -19,7 +19,7 @@ fn good_behind_wrong(b: &mut NetBuilder, v: &FlowGates) -> Result<u64, Memory>
     excludes(b, v.e.wrong, v.d.good)
 }
 
-/// What M has, no good instruction in D or E is behind.
+/// If `has` is true for M, no good instruction in D or E follows it.
 fn youngest_in_m(b: &mut NetBuilder, v: &FlowGates, has: u64) -> Result<u64, Memory>
     requires flow_in { HasFlow (length b.old.gates) v.now }
     requires has_in { has < length b.old.gates }
@@ -30,7 +30,7 @@ fn youngest_in_m(b: &mut NetBuilder, v: &FlowGates, has: u64) -> Result<u64, Mem
     excludes(b, has, behind)
 }
 
-/// What W has, no good instruction in D, E or M is behind.
+/// If `has` is true for W, no good instruction in D, E or M follows it.
 fn youngest_in_w(b: &mut NetBuilder, v: &FlowGates, has: u64) -> Result<u64, Memory>
     requires flow_in { HasFlow (length b.old.gates) v.now }
     requires has_in { has < length b.old.gates }
@@ -42,7 +42,7 @@ fn youngest_in_w(b: &mut NetBuilder, v: &FlowGates, has: u64) -> Result<u64, Mem
     excludes(b, has, behind)
 }
 
-/// No good instruction stops but the youngest.
+/// Only the youngest good instruction stops.
 fn one_stops(b: &mut NetBuilder, v: &FlowGates) -> Result<u64, Memory>
     requires { HasFlow (length b.old.gates) v.now }
     ensures extends { ExtendsNet b.old b.new }
@@ -55,7 +55,7 @@ fn one_stops(b: &mut NetBuilder, v: &FlowGates) -> Result<u64, Memory>
     b.and(e, both)
 }
 
-/// Wrong instructions may stand behind the youngest good one.
+/// Wrong instructions may follow the youngest good one.
 fn reason(b: &mut NetBuilder, v: &FlowGates) -> Result<u64, Memory>
     requires { HasFlow (length b.old.gates) v.now }
     ensures extends { ExtendsNet b.old b.new }
@@ -68,7 +68,7 @@ fn reason(b: &mut NetBuilder, v: &FlowGates) -> Result<u64, Memory>
     of_youngest(b, v, d, e, m, v.w.stops)
 }
 
-/// D and E are wrong only where that has a reason.
+/// D and E hold wrong instructions only where these may follow.
 fn wrong_reasons(b: &mut NetBuilder, v: &FlowGates) -> Result<u64, Memory>
     requires { HasFlow (length b.old.gates) v.now }
     ensures extends { ExtendsNet b.old b.new }
@@ -109,7 +109,7 @@ fn rets(b: &mut NetBuilder, v: &FlowGates, rm: bool) -> Result<u64, Memory>
     b.and(both, w)
 }
 
-/// The last three of the five.
+/// The last three of the five conditions of a legal flow.
 fn reasons_and_turns(b: &mut NetBuilder, v: &FlowGates, je: bool, rm: bool) -> Result<u64, Memory>
     requires { HasFlow (length b.old.gates) v.now }
     ensures extends { ExtendsNet b.old b.new }
@@ -123,7 +123,7 @@ fn reasons_and_turns(b: &mut NetBuilder, v: &FlowGates, je: bool, rm: bool) -> R
     b.and(reasons, last_two)
 }
 
-/// The flow is legal, in a file that fetches early from E (`je`) or M (`rm`) or not.
+/// The flow is legal. `je` and `rm` say whether the file fetches early from E and from M.
 pub fn flow_legal_gate(b: &mut NetBuilder, v: &FlowGates, je: bool, rm: bool) -> Result<u64, Memory>
     requires { HasFlow (length b.old.gates) v.now }
     ensures extends { ExtendsNet b.old b.new }
@@ -136,7 +136,7 @@ pub fn flow_legal_gate(b: &mut NetBuilder, v: &FlowGates, je: bool, rm: bool) ->
     b.and(first, last_two)
 }
 
-/// The instruction goes on where it was predicted to.
+/// The run continues at the PC that was predicted after this instruction.
 fn follows(b: &mut NetBuilder, s: &StageFlowGates) -> Result<u64, Memory>
     requires { HasStageFlow (length b.old.gates) s.now }
     ensures extends { ExtendsNet b.old b.new }
@@ -147,7 +147,8 @@ fn follows(b: &mut NetBuilder, s: &StageFlowGates) -> Result<u64, Memory>
     b.not(any)
 }
 
-/// A gate of the youngest good instruction: one for each of D, E and M, and one for W and where there is none.
+/// Selects a gate by the stage of the youngest good instruction: `d`, `e` or `m`, and `w` if it is in W or there is
+/// none.
 pub fn of_youngest(
     b: &mut NetBuilder,
     v: &FlowGates,

@@ -1,8 +1,8 @@
-//! What stands in the pipeline registers, in formulas: which flows of them are legal, how a flow moves in a cycle,
-//! and what is demanded of the words that stall and bubble (CS:APP 3e, section 4.5.8, pipeline control).
+//! The states of the pipeline registers, in formulas: which flows of them are legal, how a flow moves in a cycle, and
+//! what is demanded of the stall and bubble signals (CS:APP 3e, section 4.5.8, pipeline control).
 //!
 //! An example: E holds a good load, and D a good `addq` that needs the loaded word. D is stalled and E bubbled, so in
-//! the next cycle D holds the `addq` still, E a bubble, and M the load.
+//! the next cycle D still holds the `addq`, E a bubble, and M the load.
 #![tactic(auto, using(nets::proofs::Truths::begins_more, nets::proofs::Truths::begins_self))]
 
 mod flow_gates;

@@ -1,4 +1,4 @@
-//! Gates of the next cycle: what the registers hold behind stalls and bubbles.
+//! Gates of the next cycle: what the registers hold after stalls and bubbles.
 ghost use Rattle.std.specs.Prelude.{◌<◌, length, IfOk};
 ghost use Rattle.nets.specs.Nets.{ExtendsNet, IsGate, truth};
 ghost use Rattle.pipe_motion.specs.Gates.{stage_flow_at, flow_at, register_control_at, register_controls_at, HasStageFlow, HasFlow, HasRegisterControl, HasRegisterControls, IsStageFlow, IsFlow};
@@ -17,7 +17,7 @@ pub fn load_gate(b: &mut NetBuilder, k: &RegisterControlGates) -> Result<u64, Me
     neither(b, k.stall, k.bubble)
 }
 
-/// A bit of a register after a cycle: where it stays the old one, where it is bubbled false, else the loaded one.
+/// A bit of a register after a cycle: the old bit if it is stalled, false if it is bubbled, else the loaded bit.
 fn moved_bit(
     b: &mut NetBuilder,
     k: &RegisterControlGates,
@@ -34,7 +34,7 @@ fn moved_bit(
     choose(b, k.stall, old, comes)
 }
 
-/// What stands in a register after a cycle.
+/// The state of a register after a cycle.
 fn moved_stage(
     b: &mut NetBuilder,
     k: &RegisterControlGates,
@@ -61,7 +61,7 @@ fn moved_stage(
     })
 }
 
-/// M's stage flow as W takes it: a missed jump stands in D, E or M alone.
+/// M's state as W loads it. Only D, E and M record a mispredicted jump.
 fn for_w(b: &mut NetBuilder, s: &StageFlowGates) -> Result<StageFlowGates, Memory>
     requires { HasStageFlow (length b.old.gates) s.now }
     ensures extends { ExtendsNet b.old b.new }
@@ -77,7 +77,7 @@ fn for_w(b: &mut NetBuilder, s: &StageFlowGates) -> Result<StageFlowGates, Memor
     })
 }
 
-/// What D loads: the facts of the fetch where it is good, else a wrong instruction.
+/// What D loads: the facts of the fetched instruction if the fetch is good, else a wrong instruction.
 pub fn fetched_flow(
     b: &mut NetBuilder,
     good: u64,

@@ -27,7 +27,7 @@ pub fn leaves_gate(
     b.and(v.d.good, goes)
 }
 
-/// The register isn't stalled and bubbled.
+/// The register isn't both stalled and bubbled.
 fn stall_excludes_bubble(b: &mut NetBuilder, k: &RegisterControlGates) -> Result<u64, Memory>
     requires control_stays { HasRegisterControl (length b.old.gates) k.now }
     ensures extends { ExtendsNet b.old b.new }
@@ -36,7 +36,7 @@ fn stall_excludes_bubble(b: &mut NetBuilder, k: &RegisterControlGates) -> Result
     excludes(b, k.stall, k.bubble)
 }
 
-/// Neither E nor M nor W is stalled and bubbled.
+/// None of E, M and W is both stalled and bubbled.
 fn last_one_way(b: &mut NetBuilder, k: &RegisterControlsGates) -> Result<u64, Memory>
     requires controls_in { HasRegisterControls (length b.old.gates) k.now }
     ensures extends { ExtendsNet b.old b.new }
@@ -49,7 +49,7 @@ fn last_one_way(b: &mut NetBuilder, k: &RegisterControlsGates) -> Result<u64, Me
     b.and(e, last_two)
 }
 
-/// No register is stalled and bubbled.
+/// No register is both stalled and bubbled.
 pub fn obligation_23(b: &mut NetBuilder, k: &RegisterControlsGates) -> Result<u64, Memory>
     requires controls_in { HasRegisterControls (length b.old.gates) k.now }
     ensures extends { ExtendsNet b.old b.new }
@@ -80,7 +80,7 @@ fn passes(
     implies(b, good, goes)
 }
 
-/// A good D leaves, or it stays and E doesn't load.
+/// A good instruction in D leaves, or it stays and E doesn't load.
 fn goes_or_stays(
     b: &mut NetBuilder,
     k: &RegisterControlsGates,
@@ -118,7 +118,7 @@ pub fn obligation_24(
     b.and(w, last_three)
 }
 
-/// Where the path will hold: a good fetch that entered D has loaded F, and F stayed on the path where none did.
+/// If the path holds next: F loads if D loads a good fetch; else F is stalled and the path holds now.
 fn path_kept(
     b: &mut NetBuilder,
     k: &RegisterControlsGates,
@@ -141,7 +141,7 @@ fn path_kept(
     implies(b, later, either)
 }
 
-/// The next flow is legal, nothing wrong comes to M or W, and the path is kept.
+/// The next flow is legal, no wrong instruction comes to M or W, and the path is kept.
 #[tactic(auto, using(nets::proofs::Truths::begins_more, nets::proofs::Truths::begins_self, crate::proofs::Kept::flow_kept, crate::proofs::Kept::controls_kept))]
 fn next_right(
     b: &mut NetBuilder,
@@ -168,8 +168,8 @@ fn next_right(
     b.and(lawful, last_two)
 }
 
-/// The next flow is legal, nothing wrong comes to M or W, and the path is kept: where the fetch is good or not, and
-/// brings these facts.
+/// The next flow is legal, no wrong instruction comes to M or W, and the path is kept. `good` says whether the fetch is
+/// good; `facts` are those of the fetched instruction.
 pub fn obligation_25(
     b: &mut NetBuilder,
     k: &RegisterControlsGates,
@@ -190,7 +190,7 @@ pub fn obligation_25(
     next_right(b, k, good, v, &next, s)
 }
 
-/// Bubbles stand in E, M and W.
+/// E, M and W hold bubbles.
 fn drained(b: &mut NetBuilder, v: &FlowGates) -> Result<u64, Memory>
     requires flow_in { HasFlow (length b.old.gates) v.now }
     ensures extends { ExtendsNet b.old b.new }
@@ -203,7 +203,7 @@ fn drained(b: &mut NetBuilder, v: &FlowGates) -> Result<u64, Memory>
     b.and(e, last_two)
 }
 
-/// Behind empty stages a good D leaves.
+/// If E, M and W are empty, a good instruction leaves D.
 pub fn obligation_26(
     b: &mut NetBuilder,
     k: &RegisterControlsGates,
@@ -220,7 +220,7 @@ pub fn obligation_26(
     implies(b, here, leaves)
 }
 
-/// An empty pipeline loads D.
+/// If the pipeline is empty, D loads.
 pub fn obligation_27(
     b: &mut NetBuilder,
     k: &RegisterControlsGates,

@@ -1,7 +1,7 @@
-//! The settings of a file: what it does that another needn't.
+//! The settings of a file: which of the permitted shortcuts it takes.
 
-/// What a file does that another needn't. Jumps are predicted as taken by their ifun: `pt` those whose target isn't
-/// behind them, `pb` those that go back, which is told by the order of valC and valP as signed words.
+/// Which of the permitted shortcuts a file takes. `pt` and `pb` say by ifun which jumps it predicts as taken: `pt`
+/// those that don't go back, `pb` those that do. A jump goes back if its valC is below its valP, as signed words.
 #[derive(Clone, Copy, Debug, PartialEq, Eq)]
 pub struct Settings {
     pub pt: [bool; 7],
@@ -10,8 +10,8 @@ pub struct Settings {
     pub tv: bool,
     /// A store takes the word that it stores late, from a load in M.
     pub lf: bool,
-    /// The PC behind a mispredicted jump is fetched while the jump is in E.
+    /// The right PC after a mispredicted jump is fetched while the jump is in E.
     pub je: bool,
-    /// The PC behind a ret is fetched while the ret is in M.
+    /// The PC after a ret is fetched while the ret is in M.
     pub rm: bool,
 }

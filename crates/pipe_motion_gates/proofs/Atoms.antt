@@ -1,4 +1,4 @@
--- An atom that stands in a list is in it.
+-- If a list has an atom at some index, the atom is in the list.
 use Rattle.std.proofs.Common.{◌≡◌, ℕ, zero, suc, true, List, [], ◌∷◌, Option, Some, unwrap_or, slice_get, ap, subst}
 use Rattle.std.proofs.lemmas.Bool.{or_left, or_right}
 use Rattle.ctl_atoms.specs.declared.leaf.Atom.{Atom}

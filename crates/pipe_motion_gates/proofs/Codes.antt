@@ -1,4 +1,4 @@
--- What holds of the code of a leaf, found among the first numbers.
+-- A property of the code of a leaf: found by testing the code against all numbers below a bound, one after another.
 use Rattle.std.proofs.Common.{◌≡◌, ℕ, ◌+◌, ◌<◌, ◌≤◌, Bool, true, false, not, ◌&&◌, ◌||◌, ◌==◌, if◌then◌else◌, nat_lt, List, length, get_or, refl, sym, ap, ◌∙◌, arith}
 use Rattle.std.specs.Prelude.{unwrap_or}
 use Rattle.std.proofs.lemmas.Bool.{ne_eqb}
@@ -19,7 +19,7 @@ use Rattle.pipe_obligations.specs.Obligations.{code_of}
 use Rattle.pipe_motion.specs.Flow.{StageFlow, Flow, RegisterControls, of_youngest, o25}
 use Rattle.pipe_gates.proofs.Found.{found_step}
 
--- a leaf is a number below 15 where its code is
+-- a leaf is a number below 15 exactly if its code is that number
 pub code_is : (l : Leaf) (k : ℕ) → k < 15 → leaf_eq l (Number k) ≡ (code_of l == k)
 code_is (Number n) k lt = refl
 code_is (Name x) k lt = sym (ne_eqb 15 k (λ e. omega (arith, e, lt)))
@@ -29,7 +29,7 @@ pub code_step : (P : ℕ → Bool) (l : Leaf) (k : ℕ) → k < 15 →
 code_step P l k lt = found_step P (code_of l) k (nat_lt (code_of l) k && P (code_of l)) (leaf_eq l (Number k) && P k)
     ((nat_lt (code_of l) k && P (code_of l)) || (leaf_eq l (Number k) && P k)) refl (ap (λ z. z && P k) (code_is l k lt)) refl
 
--- nothing holds past the last
+-- the test of all numbers below a bound is complete if the property holds for none from there on
 pub below_all : (P : ℕ → Bool) (n : ℕ) → ((s : ℕ) → n ≤ s → P s ≡ false) → (s : ℕ) → (nat_lt s n && P s) ≡ P s
 below_all P n past s = by (nat_lt s n) refl
   where

@@ -1,4 +1,4 @@
--- What shows a setting, part by part.
+-- Equal parts give equal gates for the valuations that show a setting.
 use Rattle.std.proofs.Common.{◌≡◌, ℕ, Bool, ◌&&◌, not, refl}
 use Rattle.y86_base.specs.declared.parts.Variant.{Variant}
 use Rattle.ctl_atoms.specs.declared.leaf.Leaf.{Leaf}

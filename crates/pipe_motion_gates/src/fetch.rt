@@ -1,4 +1,4 @@
-//! Obligation 25: what is fetched, whether that is the next instruction, and the next cycle's flow.
+//! Obligation 25: whether the fetch is that of the next instruction, and the next cycle's flow.
 #![tactic(auto, using(nets::proofs::Truths::begins_more, ctl_formula::proofs::Inside::inside_more, pipe_motion::proofs::Kept::flow_stays, pipe_gates::proofs::Known::known_f_pc, pipe_gates::proofs::Known::known_f_stat, pipe_gates::proofs::Known::known_f_icode, pipe_gates::proofs::Known::known_f_ifun))]
 
 ghost use Rattle.std.specs.Prelude.{◌<◌, ◌≤◌, ◌&&◌, ◌||◌, false, get_or, if◌then◌else◌, IfOk, IsTrue, length};
@@ -34,7 +34,7 @@ use pipe_motion::{FlowGates, Settings, StageFlowGates, of_youngest, path_gate, s
 use y86_base::{Memory, Variant};
 use y86_isa::row;
 
-/// The signal is the code, and that counts.
+/// The signal is the code, and `counts` holds.
 fn code_if(
     b: &mut NetBuilder,
     ctl: &Controls,
@@ -52,7 +52,7 @@ fn code_if(
     b.and(here, count)
 }
 
-/// The list has the truth `true` at the code of a signal.
+/// The list is true at the code of a signal.
 fn code_listed(
     b: &mut NetBuilder,
     ctl: &Controls,
@@ -73,7 +73,7 @@ fn code_listed(
     Ok(any)
 }
 
-/// The row of the icode that a signal is passes the test.
+/// The row of the signal's icode passes the test.
 fn code_has(
     b: &mut NetBuilder,
     ctl: &Controls,
@@ -94,7 +94,7 @@ fn code_has(
     Ok(any)
 }
 
-/// What is fetched stops the machine.
+/// The fetched instruction stops the machine.
 fn fetched_stops(b: &mut NetBuilder, ctl: &Controls) -> Result<u64, Memory>
     requires inside { IsInside b.old ctl.now }
     requires known { IsTrue (has_picks ctl.now names.f_stat) }
@@ -108,7 +108,7 @@ fn fetched_stops(b: &mut NetBuilder, ctl: &Controls) -> Result<u64, Memory>
     b.not(goes_on)
 }
 
-/// What is fetched is a conditional jump that goes on.
+/// The fetched instruction is a conditional jump with status 1 (AOK).
 fn fetched_jumps(b: &mut NetBuilder, ctl: &Controls, v: Variant) -> Result<u64, Memory>
     requires inside { IsInside b.old ctl.now }
     requires stat_known { IsTrue (has_picks ctl.now names.f_stat) }
@@ -121,7 +121,7 @@ fn fetched_jumps(b: &mut NetBuilder, ctl: &Controls, v: Variant) -> Result<u64, 
     b.and(running, branch)
 }
 
-/// The way that is predicted of what is fetched, were it a jump.
+/// The way that is predicted for the fetched instruction, as if it were a jump.
 fn fetched_way(b: &mut NetBuilder, ctl: &Controls, s: &Settings) -> Result<u64, Memory>
     requires inside { IsInside b.old ctl.now }
     requires known { IsTrue (has_picks ctl.now names.f_ifun) }
@@ -135,7 +135,7 @@ fn fetched_way(b: &mut NetBuilder, ctl: &Controls, s: &Settings) -> Result<u64, 
     choose(b, ahead, forward, backward)
 }
 
-/// What is fetched is a jump that takes another way than predicted.
+/// The fetched instruction is a mispredicted jump.
 fn fetched_misses(
     b: &mut NetBuilder,
     ctl: &Controls,
@@ -158,7 +158,7 @@ fn fetched_misses(
     b.and(here, other)
 }
 
-/// What D loads of a good fetch.
+/// What D loads from a good fetch.
 fn fetched_facts(
     b: &mut NetBuilder,
     ctl: &Controls,
@@ -223,7 +223,7 @@ pub fn right_after_e(b: &mut NetBuilder, ctl: &Controls, v: Variant) -> Result<u
     b.and(here, taken)
 }
 
-/// f_pc is where the jump in M goes: to its target only where the file carries that through the ALU.
+/// f_pc is where the jump in M goes. Its target counts only if the file carries it through the ALU (`tv`).
 fn jump_after_m(b: &mut NetBuilder, ctl: &Controls, v: Variant, tv: bool) -> Result<u64, Memory>
     requires inside { IsInside b.old ctl.now }
     requires known { IsTrue (has_picks ctl.now names.f_pc) }
@@ -270,7 +270,7 @@ fn right_after_m(
     b.or(jumped, returned)
 }
 
-/// f_pc is where the youngest good instruction goes, as far as a stage tells it.
+/// f_pc is where the youngest good instruction goes, if its stage can decide that.
 fn right_pc(
     b: &mut NetBuilder,
     ctl: &Controls,
@@ -333,7 +333,7 @@ fn fetch_good(
     b.and(goes_on, next)
 }
 
-/// Obligation 25: the next cycle's flow is legal, has nothing wrong in M and W, and keeps the path.
+/// Obligation 25: the next cycle's flow is legal, has no wrong instruction in M and W, and keeps the path.
 pub fn obligation_25(
     b: &mut NetBuilder,
     ctl: &Controls,

@@ -1,4 +1,4 @@
-//! Parts of the gates for lf, je and rm, from what stands in the stages.
+//! Parts of the gates for lf, je and rm, given the flow of the stages.
 ghost use Rattle.std.specs.Prelude.{◌<◌, ◌≤◌, ◌==◌, ◌&&◌, not, length, IfOk};
 ghost use Rattle.nets.specs.Nets.{ExtendsNet, IsGate, truth};
 ghost use Rattle.y86_isa.specs.Table.{row};
@@ -14,7 +14,7 @@ use pipe_gates::{RowTest, row_has};
 use pipe_motion::{FlowGates, RegisterControlsGates, leaves_gate};
 use y86_base::{Memory, Variant};
 
-/// A store stands in D, and a good instruction in E that loads a register.
+/// D holds a store, and E a good instruction that loads a register.
 #[tactic(auto, unfolding(pipe_fields::specs::Layout::fields_of), using(nets::proofs::Truths::begins_more, nets::proofs::Truths::begins_self))]
 fn store_behind_load(b: &mut NetBuilder, v: Variant, y: &FlowGates) -> Result<u64, Memory>
     requires vars { bit_count ≤ b.old.vars }
@@ -29,7 +29,8 @@ fn store_behind_load(b: &mut NetBuilder, v: Variant, y: &FlowGates) -> Result<u6
     b.and(stores, loads)
 }
 
-/// Not: a good store leaves D past a load in E of its source (`equal`), where all that is early or late is allowed (`plain`).
+/// False exactly if a good store leaves D while E loads its source (`equal`), at a valuation that may show a setting
+/// (`plain`).
 pub fn no_late_load(
     b: &mut NetBuilder,
     v: Variant,
@@ -56,7 +57,8 @@ pub fn no_late_load(
     b.not(shown)
 }
 
-/// Not: E holds a missed jump, and f_pc is where it goes (`right`).
+/// False exactly if E holds a missed jump, and f_pc is where it goes (`right`), at a valuation that may show a
+/// setting (`plain`).
 pub fn no_early_jump(
     b: &mut NetBuilder,
     y: &FlowGates,
@@ -74,7 +76,8 @@ pub fn no_early_jump(
     b.not(shown)
 }
 
-/// Not: M holds a ret that doesn't stop, and f_pc is where it goes (`right`).
+/// False exactly if M holds a ret that doesn't stop, and f_pc is where it goes (`right`), at a valuation that may
+/// show a setting (`plain`).
 pub fn no_early_ret(
     b: &mut NetBuilder,
     y: &FlowGates,

@@ -1,4 +1,4 @@
-//! The gates that decide lf, je and rm: a setting is 1 where its gate is false at some valuation.
+//! The gates that decide lf, je and rm: a setting is 1 if its gate is false at some valuation.
 ghost use Rattle.std.specs.Prelude.{◌≡◌, ◌<◌, ◌≤◌, ◌+◌, ◌&&◌, if◌then◌else◌, IfOk, length, not};
 ghost use Rattle.nets.specs.Nets.{ExtendsNet, truth};
 ghost use Rattle.ctl_atoms.specs.declared.leaf.Leaf.TheVariants.{Name};
@@ -28,7 +28,7 @@ use pipe_gates::{flow_gates, register_controls_of};
 use pipe_motion::{FlowGates, Settings};
 use y86_base::{Memory, Variant};
 
-/// Not: a good store leaves D while E loads its source, where a gate holds.
+/// False exactly if a good store leaves D while E loads its source, and `plain` holds.
 #[tactic(auto, using(pipe_gates::proofs::Known::known_d_srcA, pipe_motion::proofs::Kept::flow_stays, ctl_formula::proofs::Inside::inside_more))]
 fn no_load_passed(
     b: &mut NetBuilder,
@@ -51,7 +51,7 @@ fn no_load_passed(
     no_late_load(b, v, equal, &controls, y, plain)
 }
 
-/// Not: E holds a missed jump, and f_pc is where it goes, where a gate holds.
+/// False exactly if E holds a missed jump, and f_pc is where it goes, and `plain` holds.
 #[tactic(auto, using(pipe_gates::proofs::Known::known_f_pc, pipe_motion::proofs::Kept::flow_stays, ctl_formula::proofs::Inside::inside_more))]
 fn no_jump_early(
     b: &mut NetBuilder,
@@ -74,7 +74,7 @@ fn no_jump_early(
     no_early_jump(b, y, right, plain)
 }
 
-/// Not: M holds a ret that doesn't stop, and f_pc is where it goes, where a gate holds.
+/// False exactly if M holds a ret that doesn't stop, and f_pc is where it goes, and `plain` holds.
 #[tactic(auto, using(pipe_gates::proofs::Known::known_f_pc, pipe_motion::proofs::Kept::flow_stays, ctl_formula::proofs::Inside::inside_more))]
 fn no_ret_early(
     b: &mut NetBuilder,
@@ -99,14 +99,15 @@ fn no_ret_early(
     no_early_ret(b, y, right, plain)
 }
 
-/// What stands in the stages, and the valuations that may show a setting.
+/// The flow of the stages, and the valuations that may show a setting.
 #[derive(Clone, Copy, Debug)]
 struct PermissiveFlow {
     flow: FlowGates,
     plain: u64,
 }
 
-/// The valuations that may show a setting: legal ones of cycles that go on, where all that is early or late is allowed.
+/// The valuations that may show a setting: legal ones of cycles that don't stop, with every early fetch and late word
+/// allowed.
 fn permissive_legal(
     b: &mut NetBuilder,
     v: Variant,
@@ -125,7 +126,7 @@ fn permissive_legal(
     Ok(PermissiveFlow { flow, plain })
 }
 
-/// The gates that decide lf, je and rm: each setting holds where its gate is false at some valuation.
+/// The gates that decide lf, je and rm: a setting holds if its gate is false at some valuation.
 #[derive(Clone, Copy, Debug, PartialEq, Eq)]
 pub struct Late {
     pub lf: u64,
@@ -133,8 +134,8 @@ pub struct Late {
     pub rm: u64,
 }
 
-/// The gates that decide lf, je and rm, each false of the valuations that show it. The settings are those with all that is
-/// early or late allowed.
+/// The gates that decide lf, je and rm. Each is false at the valuations that show its setting. The given settings allow
+/// every early fetch and late word.
 #[tactic(auto, using(pipe_motion::proofs::Kept::flow_stays, ctl_formula::proofs::Inside::inside_more, nets::proofs::Truths::begins_more))]
 pub fn late_gates(
     b: &mut NetBuilder,

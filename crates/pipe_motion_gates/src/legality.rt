@@ -1,4 +1,4 @@
-//! Gates of which valuations are legal.
+//! Gates that say which valuations are legal.
 #![tactic(auto, unfolding(pipe_fields::specs::Layout::fields_of), using(nets::proofs::Truths::begins_more, nets::proofs::Truths::begins_self))]
 
 ghost use Rattle.std.specs.Prelude.{◌≡◌, ◌<◌, ◌≤◌, ◌+◌, ◌==◌, ◌&&◌, not, length, IfOk};
@@ -25,7 +25,7 @@ use pipe_gates::{RowTest, jump, row_has};
 use pipe_motion::{FlowGates, Settings, flow_legal_gate};
 use y86_base::{Memory, Variant};
 
-/// The register that M loads is a source of E that has to be there.
+/// The register that M loads is a source of E whose value E needs now.
 fn awaits_load(b: &mut NetBuilder, v: Variant, lf: bool) -> Result<u64, Memory>
     requires { bit_count ≤ b.old.vars }
     ensures extends { ExtendsNet b.old b.new }
@@ -67,7 +67,7 @@ fn no_load_use_in_e(b: &mut NetBuilder, v: Variant, lf: bool, y: &FlowGates) -> 
     b.not(bad)
 }
 
-/// Where a jump is here, the atom that compares its two words is its back bit, if the file has the atom.
+/// If the stage has a jump, the atom that compares its two words is its back bit, provided that the file has this atom.
 #[tactic(auto, using(nets::proofs::Truths::begins_more, nets::proofs::Truths::begins_self, crate::proofs::Atoms::has_at))]
 fn back_matches(
     b: &mut NetBuilder,
@@ -112,7 +112,7 @@ pub fn fetched_jump(b: &mut NetBuilder, v: Variant) -> Result<u64, Memory>
     b.and(clear, branch)
 }
 
-/// Of the jump that is fetched, the atom is its back bit.
+/// For the fetched jump, the atom is its back bit.
 pub fn back_matches_in_f(b: &mut NetBuilder, v: Variant, atoms: &[Atom]) -> Result<u64, Memory>
     requires vars { bit_count + length atoms.now ≤ b.old.vars }
     requires few { length atoms.now ≤ 64 }
@@ -123,7 +123,8 @@ pub fn back_matches_in_f(b: &mut NetBuilder, v: Variant, atoms: &[Atom]) -> Resu
     back_matches(b, atoms, signal::F_VAL_C, signal::F_VAL_P, here, F_BACK)
 }
 
-/// A stage's words of the target of a jump and of the PC behind it, and the fields that say whether a jump is there and goes back.
+/// A stage's words with a jump's target and with the PC after it, and the fields that say whether the stage has a jump
+/// and whether it goes back.
 #[derive(Clone, Copy, Debug)]
 struct StageJump {
     target: NameId,
@@ -157,7 +158,7 @@ const JUMP_IN_M: StageJump = StageJump {
     back: M_BACK,
 };
 
-/// Of the jump in a stage, the atom is its back bit.
+/// For the jump in a stage, the atom is its back bit.
 fn stage_tells_back(
     b: &mut NetBuilder,
     v: Variant,

@@ -1,4 +1,4 @@
-//! Obligations 23, 24, 26 and 27: what the words that stall and bubble do to what stands in the stages.
+//! Obligations 23, 24, 26 and 27: how the stall and bubble signals move the flow of the stages.
 ghost use Rattle.std.specs.Prelude.{IfOk, length};
 ghost use Rattle.nets.specs.Nets.{ExtendsNet};
 ghost use Rattle.ctl_formula.specs.Picks.{Covers, IsInside};
@@ -14,7 +14,7 @@ use pipe_gates::register_controls_of;
 use pipe_motion::FlowGates;
 use y86_base::Memory;
 
-/// Obligation 23: no register is stalled and bubbled.
+/// Obligation 23: no register is both stalled and bubbled.
 pub fn obligation_23(b: &mut NetBuilder, ctl: &Controls) -> Result<u64, Memory>
     requires inside { IsInside b.old ctl.now }
     requires known { Covers pipe_rows ctl.now }
@@ -37,7 +37,7 @@ pub fn obligation_24(b: &mut NetBuilder, ctl: &Controls, y: &FlowGates) -> Resul
     pipe_motion::obligation_24(b, &controls, y)
 }
 
-/// Obligation 26: behind bubbles the good instruction in D leaves.
+/// Obligation 26: if E, M and W hold bubbles, the good instruction in D leaves.
 pub fn obligation_26(b: &mut NetBuilder, ctl: &Controls, y: &FlowGates) -> Result<u64, Memory>
     requires inside { IsInside b.old ctl.now }
     requires flow { HasFlow (length b.old.gates) y.now }
@@ -49,7 +49,7 @@ pub fn obligation_26(b: &mut NetBuilder, ctl: &Controls, y: &FlowGates) -> Resul
     pipe_motion::obligation_26(b, &controls, y)
 }
 
-/// Obligation 27: into an empty pipeline D loads.
+/// Obligation 27: if the pipeline is empty, D loads.
 pub fn obligation_27(b: &mut NetBuilder, ctl: &Controls, y: &FlowGates) -> Result<u64, Memory>
     requires inside { IsInside b.old ctl.now }
     requires flow { HasFlow (length b.old.gates) y.now }

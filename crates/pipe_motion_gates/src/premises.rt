@@ -1,4 +1,4 @@
-//! Gates of the premises: which valuations each obligation is asked of.
+//! Gates of the premises: the valuations at which each obligation is demanded.
 ghost use Rattle.std.specs.Prelude.{◌≡◌, ◌≤◌, ◌+◌, ◌==◌, ◌||◌, ◌&&◌, not, length, IfOk};
 ghost use Rattle.nets.specs.Nets.{ExtendsNet, IsGate, agree};
 ghost use Rattle.y86_base.specs.Words.{set};
@@ -44,7 +44,7 @@ pub fn demanded_gate(
     without(b, both, stopping)
 }
 
-/// An allowed and legal valuation at settings, in a cycle that goes on, or (`always`) in any.
+/// An allowed and legal valuation at settings, in a cycle that doesn't stop, or (`always`) in any.
 pub fn premise_gate(
     b: &mut NetBuilder,
     v: Variant,
@@ -62,7 +62,7 @@ pub fn premise_gate(
     demanded_gate(b, v, s, atoms, y, always)
 }
 
-/// A jump of this ifun that goes back or not is fetched.
+/// A jump of this ifun is fetched that goes back, or (without `back`) doesn't.
 #[tactic(auto, unfolding(pipe_fields::specs::Layout::fields_of), using(nets::proofs::Truths::begins_more, nets::proofs::Truths::begins_self))]
 fn jump_of(b: &mut NetBuilder, v: Variant, ifun: u64, back: bool) -> Result<u64, Memory>
     requires { bit_count ≤ b.old.vars }
@@ -80,8 +80,8 @@ fn jump_of(b: &mut NetBuilder, v: Variant, ifun: u64, back: bool) -> Result<u64,
     }
 }
 
-/// The valuations of which a prediction is asked: allowed ones (`fits` is their gate), where such a jump is fetched and its atom
-/// is its back bit.
+/// The valuations at which a prediction is demanded: allowed ones (`fits` is their gate) with a fetched jump of this
+/// kind whose atom is its back bit.
 pub fn prediction_premise(
     b: &mut NetBuilder,
     v: Variant,
@@ -103,7 +103,7 @@ pub fn prediction_premise(
     b.and(fits, here)
 }
 
-/// The flags, memory and the status are asked of in cycles that stop too.
+/// The obligations on the flags, memory and the status are demanded in cycles that stop too.
 pub fn is_always_demanded(number: u64) -> bool
     ensures { result ≡ rules.is_always_demanded number }
 {

@@ -1,10 +1,10 @@
--- What legal says of a flow, of the older of two good instructions.
+-- What a legal flow says about the older of two good instructions.
 use Rattle.std.proofs.Common.{◌≡◌, Bool, true, false, not, ◌&&◌, refl, arith}
 use Rattle.y86_base.proofs.Booleans.{and_second, and_first}
 use Rattle.pipe_motion.specs.Flow.{Flow, flow_legal, path, empty_flow, no_good_behind_wrong, youngest_stops_alone, wrong_has_reason, missed_jump_is_youngest, ret_is_youngest}
 use Rattle.pipe_obligations.specs.FlowLaws.{OlderGoesOn, OlderIsResolved}
 
--- of five truths joined, each
+-- each of five truths that hold together
 record Five (a b c d e : Bool) : Type 0 where
   first : a ≡ true
   second : b ≡ true
@@ -18,7 +18,7 @@ parts : (je rm : Bool) (v : Flow) → flow_legal je rm v ≡ true → Five (no_g
 unfolding flow_legal
 parts je rm v h = five _ _ _ _ _ h
 
--- the first of two or of three that don't go together with what is behind them
+-- a truth that excludes another is false where the other holds
 apart : (x b : Bool) → not (x && b) ≡ true → b ≡ true → x ≡ false
 apart x b h k = grind (arith, h, k)
 

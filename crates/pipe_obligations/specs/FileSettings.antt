@@ -1,4 +1,5 @@
--- What the settings of a file mean, when the obligations hold of it at settings, and which is false at a valuation.
+-- What the settings of a file mean, when a file meets the obligations at settings, and which obligation is false at a
+-- valuation.
 use Rattle.std.specs.Prelude.{ℕ, ◌+◌, ◌≡◌, ◌≤◌, ◌<◌, Bool, true, false, not, ◌&&◌, ◌||◌, ◌==◌, List, get_or, length}
 use Rattle.y86_base.specs.declared.parts.Variant.{Variant}
 use Rattle.y86_isa.specs.Table.{row, no_register}
@@ -37,7 +38,7 @@ ValuationTruth = Fields → Assignment → (ℕ → Leaf) → Bool
 
 -- ---- the truths that decide the settings
 
--- a jump of this ifun that goes back or not, where it is fetched, is predicted as taken
+-- a fetched jump with this ifun, which goes back or not, is predicted as taken
 unfoldable pub picks_target : Variant → List Atom → ℕ → Bool → ValuationTruth
 picks_target v atoms ifun back c α cv =
     not (allowed v c && (fetched_jump v c && (c.f.ifun == ifun && (agree back (set c.f.back) && back_matches_in_f v atoms c α))))
@@ -47,11 +48,11 @@ picks_target v atoms ifun back c α cv =
 unfoldable pub alu_passes_target : Variant → Settings → ValuationTruth
 alu_passes_target v s c α cv = not (allowed v c) || target_in_alu v s c (flow_of v s c) (register_controls_of α cv) α cv
 
--- the settings with all that is early or late allowed
+-- the settings with every early fetch and every late word allowed
 abbrev pub permissive : Settings → Settings
 permissive s = record { pt = s.pt; pb = s.pb; tv = s.tv; lf = true; je = true; rm = true }
 
--- a legal valuation of a cycle that doesn't stop, where all that is early or late is allowed
+-- a legal valuation of a cycle that doesn't stop, if every early fetch and every late word is allowed
 unfoldable pub may_witness : Variant → Settings → List Atom → Fields → Assignment → Bool
 may_witness v s atoms c α = allowed v c && (legal v (permissive s) atoms c α && not (is_stopping c))
 
@@ -76,7 +77,8 @@ unfoldable pub witnesses_rm : Variant → Settings → List Atom → ValuationTr
 witnesses_rm v s atoms c α cv =
     (((flow_of v s c).m.ret && not (flow_of v s c).m.stops) && picks_leaf cv signal.f_pc (Name signal.m_valM)) && may_witness v s atoms c α
 
--- ---- over all valuations of a file, which has these atoms, and at a valuation and truths of atoms these control values
+-- ---- over all valuations of a file with these atoms; `Controls` has the control values at a valuation and truths of
+-- atoms
 module _ (v : Variant) (atoms : List Atom) (Controls : Fields → Assignment → (ℕ → Leaf) → Type 0) where
   abbrev pub Everywhere : ValuationTruth → Type 0
   Everywhere f = (c : Fields) (α : Assignment) (cv : ℕ → Leaf) → InRange c → Controls c α cv → f c α cv ≡ true
@@ -98,7 +100,7 @@ module _ (v : Variant) (atoms : List Atom) (Controls : Fields → Assignment →
     pub obligations : (i : ℕ) → 1 ≤ i → i ≤ rule_count → Everywhere (obligation v s atoms i)
     pub target : s.tv ≡ true → Everywhere (alu_passes_target v s)
 
-  -- obligation i is false of the valuation that these bits spell
+  -- obligation i is false at the valuation that these bits spell
   pub record IsFalseAt (s : Settings) (i : ℕ) (w : List Bool) : Type 0 where
     pub α : Assignment
     pub cv : ℕ → Leaf
@@ -106,7 +108,8 @@ module _ (v : Variant) (atoms : List Atom) (Controls : Fields → Assignment →
     pub controls : Controls (fields_of w) α cv
     pub false_there : obligation v s atoms i (fields_of w) α cv ≡ false
 
-  -- the first obligation that is false of some valuation, and the least such valuation in the order of the variables, 0 before 1
+  -- the first obligation that is false at some valuation, and the least valuation where it is, in the order of the
+  -- variables, 0 before 1
   pub record IsLeastFalse (s : Settings) (i : ℕ) (w : List Bool) : Type 0 where
     pub first : 1 ≤ i
     pub last : i ≤ rule_count

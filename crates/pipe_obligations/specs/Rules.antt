@@ -15,7 +15,7 @@ use Rattle.pipe_obligations.specs.Obligations.{register_controls_of, o1, o2, o3,
 abbrev pub rule_count : ℕ
 rule_count = 27
 
--- what they ask of a line of fields, in the order of their numbers, from 1 on
+-- what they demand at a valuation, in the order of their numbers, from 1 on
 abbrev pub demands : Variant → Settings → Fields → Flow → RegisterControls → Assignment → (ℕ → Leaf) → List Bool
 demands v s c y mv α cv =
     o1 v s c y mv α cv ∷ o2 v s c y mv α cv ∷ o3 v s c y mv α cv ∷
@@ -34,14 +34,14 @@ demand i v s c y mv α cv = get_or (true ∷ demands v s c y mv α cv) i true
 unfoldable pub demand_at : Variant → Settings → ℕ → Fields → Assignment → (ℕ → Leaf) → Bool
 demand_at v s i c α cv = demand i v s c (flow_of v s c) (register_controls_of α cv) α cv
 
--- the flags, memory and the status are asked for in cycles that stop too
+-- the obligations on the flags, memory and the status are demanded in cycles that stop too
 abbrev pub is_always_demanded : ℕ → Bool
 is_always_demanded i = i == 15 || (i == 19 || i == 22)
 
--- the valuations of which obligation i is asked
+-- the valuations at which obligation i is demanded
 unfoldable pub is_demanded : Variant → Settings → List Atom → ℕ → Fields → Assignment → Bool
 is_demanded v s atoms i c α = allowed v c && (legal v s atoms c α && (is_always_demanded i || not (is_stopping c)))
 
--- the obligation: a valuation of which it isn't asked meets it
+-- the obligation; it holds at a valuation at which it isn't demanded
 abbrev pub obligation : Variant → Settings → List Atom → ℕ → Fields → Assignment → (ℕ → Leaf) → Bool
 obligation v s atoms i c α cv = not (is_demanded v s atoms i c α) || demand_at v s i c α cv

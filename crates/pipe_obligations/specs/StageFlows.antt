@@ -1,4 +1,4 @@
--- What stands in the stages of a valuation, and which valuations are legal.
+-- The flow of the stages of a valuation, and which valuations are legal.
 use Rattle.std.specs.Prelude.{ℕ, Bool, false, not, ◌&&◌, ◌||◌, ◌==◌, List}
 use Rattle.y86_base.specs.declared.parts.Variant.{Variant}
 use Rattle.y86_isa.specs.Table.{row, no_register}
@@ -15,9 +15,9 @@ use Rattle.pipe_motion.specs.Predictions.{predicts}
 use Rattle.pipe_motion.specs.declared.settings.Settings.{Settings}
 use Rattle.dp_signals.specs.PipeNames as signal
 
--- ---- what stands in D, E, M and W
+-- ---- the states of D, E, M and W
 
--- by its kind (0 a bubble, 1 good, 2 wrong), and three truths that count for a good instruction
+-- by the kind (0 a bubble, 1 good, 2 wrong), and three truths that count for a good instruction
 abbrev pub stage_flow_by : ℕ → Bool → Bool → Bool → StageFlow
 stage_flow_by kind stops ret missed = record {
   good = kind == 1;
@@ -34,11 +34,11 @@ stops_by stat fault = not (stat == 1) || set fault
 abbrev pub is_ret : Variant → ℕ → Bool
 is_ret v icode = next_is_val_m (row v icode).next
 
--- a conditional jump that goes on
+-- a conditional jump with status 1 (AOK)
 abbrev pub is_jump : Variant → ℕ → ℕ → Bool
 is_jump v stat icode = stat == 1 && next_is_branch (row v icode).next
 
--- a jump that takes another way than predicted
+-- a mispredicted jump
 abbrev pub is_missed : Variant → Settings → ℕ → ℕ → ℕ → ℕ → ℕ → Bool
 is_missed v s stat icode ifun taken back = is_jump v stat icode && not (agree (set taken) (predicts s ifun (set back)))
 
@@ -60,29 +60,29 @@ flow_of v s c = record { d = decode_flow v s c.d; e = execute_flow v s c.e; m = 
 
 -- ---- legal valuations
 
--- where a good instruction in M loads a register, the good one in E has it as no source; with lf a store may have it as the
+-- if a good instruction in M loads a register, that is no source of the good one in E; with lf it may be a store's
 -- source of the word that it stores
 abbrev pub no_load_use_in_e : Variant → Bool → Fields → Flow → Bool
 no_load_use_in_e v lf c y =
     not (y.e.good && (y.m.good && not (c.m.dst_m == no_register)))
     || (not (c.m.dst_m == c.e.src_b) && (not (c.m.dst_m == c.e.src_a) || (lf && stores_val_a (row v c.e.icode).memory)))
 
--- the atom of x < y of two names
+-- the atom x < y of two names
 abbrev pub below : ℕ → ℕ → Atom
 below x y = record { kind = Lt; left = Name x; right = Name y }
 
--- of a jump that is here: the atom of x < y is the back bit, if it is an atom of the file
+-- if the stage has a jump, the atom x < y is its back bit, provided that the file has this atom
 abbrev pub back_matches : List Atom → Assignment → ℕ → ℕ → Bool → ℕ → Bool
 back_matches atoms α x y here back = not (here && has_atom atoms (below x y)) || agree (α Lt (Name x) (Name y)) (set back)
 
--- the jump that is fetched
+-- a jump is fetched
 abbrev pub fetched_jump : Variant → Fields → Bool
 fetched_jump v c = not (set c.f.error) && next_is_branch (row v c.f.icode).next
 
 abbrev pub back_matches_in_f : Variant → List Atom → Fields → Assignment → Bool
 back_matches_in_f v atoms c α = back_matches atoms α signal.f_valC signal.f_valP (fetched_jump v c) c.f.back
 
--- comparisons of a jump's valC and valP are one fact about it, in each stage that has both; with tv also in M
+-- a jump's valC < valP has the same truth in all stages that have both words; with tv also in M
 abbrev pub back_matches_all : Variant → Bool → List Atom → Fields → Flow → Assignment → Bool
 back_matches_all v tv atoms c y α =
     back_matches_in_f v atoms c α

@@ -12,12 +12,13 @@ ghost use Rattle.pipe_obligations.specs.Rules.{is_demanded, obligation};
 ghost use Rattle.pipe_obligations.specs.FlowLaws.{OlderGoesOn, OlderIsResolved};
 ghost use Rattle.pipe_obligations.specs.StageFlows.{back_matches_in_f, is_stopping, legal};
 
-/// A valuation of which an obligation isn't asked meets it.
+/// An obligation holds at each valuation at which it isn't demanded.
 pub fn law_of_undemanded()
     ensures { (v : Variant) (s : Settings) (atoms : List Atom) (i : ℕ) (c : Fields) (α : Assignment) (cv : ℕ → Leaf) → is_demanded v s atoms i c α ≡ false → obligation v s atoms i c α cv ≡ true }
 {}
 
-/// In a legal flow only the youngest good instruction can stop or turn, and behind a wrong one stands no good one.
+/// In a legal flow, only the youngest good instruction can stop or be unresolved (a jump or a ret), and no good
+/// instruction follows a wrong one.
 #[tactic(auto, using(crate::proofs::Older::older_goes_on, crate::proofs::Older::older_has_turned, crate::proofs::Older::none_behind_wrong))]
 pub fn law_of_legal_flows()
     ensures stops { (je rm : Bool) (v : Flow) → flow_legal je rm v ≡ true → OlderGoesOn v }
@@ -25,8 +26,8 @@ pub fn law_of_legal_flows()
     ensures wrong { (je rm : Bool) (v : Flow) → flow_legal je rm v ≡ true → v.e.wrong ≡ true → v.d.good ≡ false }
 {}
 
-/// A pipeline of bubbles alone, as at the start, is legal at all settings, where the comparison that tells whether a jump goes
-/// back agrees with the jump that is fetched; and its cycle doesn't stop. The flow of such a pipeline is legal and on its path.
+/// A pipeline of bubbles alone, as at the start, is legal at all settings if the comparison of valC and valP agrees
+/// with the fetched jump; and its cycle doesn't stop. The flow of such a pipeline is legal and on its path.
 #[tactic(auto, using(crate::proofs::Start::start_is_legal, crate::proofs::Older::empty_is_lawful, crate::proofs::Older::empty_on_path))]
 pub fn law_of_the_start()
     ensures legal { (v : Variant) (s : Settings) (atoms : List Atom) (f : FetchLine) (α : Assignment) → back_matches_in_f v atoms (of_bubbles f) α ≡ true → legal v s atoms (of_bubbles f) α ≡ true }

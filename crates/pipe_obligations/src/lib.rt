@@ -4,7 +4,7 @@
 
 mod laws;
 
-/// How many obligations there are.
+/// The number of obligations.
 pub const RULE_COUNT: u32 = 27;
 
 pub use laws::{law_of_legal_flows, law_of_the_start, law_of_undemanded};

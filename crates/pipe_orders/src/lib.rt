@@ -1,6 +1,6 @@
 //! Orders of the bits of PIPE's control valuations in which the diagrams of its formulas are small.
 //!
-//! They matter only for the time of a check and the length of a certificate: what is decided or certified holds in any
+//! An order affects only the time of a check and the length of a certificate: what is decided or certified holds in any
 //! order.
 #![tactic(auto)]
 

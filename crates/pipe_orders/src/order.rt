@@ -9,7 +9,7 @@ use pipe_fields::places;
 use std::alloc::Global;
 use y86_base::Memory;
 
-/// How many register fields stand side by side, bit by bit: all first bits, then all second ones, and so on.
+/// How many register fields are interleaved, bit by bit: all first bits, then all second ones, and so on.
 #[derive(Clone, Copy, Debug, PartialEq, Eq)]
 pub enum Weave {
     /// None: the fields follow one another.
@@ -23,7 +23,7 @@ pub enum Weave {
 }
 
 impl Weave {
-    /// The number of fields that stand side by side.
+    /// The number of interleaved fields.
     pub(crate) fn width(self) -> usize
         ensures { 0 < result }
     {
@@ -36,18 +36,19 @@ impl Weave {
     }
 }
 
-/// How the variables stand.
+/// How the variables are arranged.
 #[derive(Clone, Copy, Debug, PartialEq, Eq)]
 pub enum Layout {
-    /// Stage by stage, the registers of each behind its other fields.
+    /// Stage by stage, the registers of each stage after its other fields.
     Stages,
-    /// The icode in E first, and the registers of all stages last, four of their fields side by side. It is for a part of the
-    /// valuations whose diagrams are large, which is split again by the first variables. On the changed files with the largest
-    /// diagrams, the icode in E was the best of the three in D, E and M.
+    /// The icode in E first, and the registers of all stages last, four of their fields interleaved. This is for a
+    /// part of the valuations that is split again by the first variables, because its diagrams are large. On the
+    /// changed files with the largest diagrams, the icode in E was the best of the three in D, E and M.
     LargePart,
-    /// The registers of all stages last. Where registers of one stage are compared with each other or with constants, their
-    /// fields are best one after another. Where a file compares registers of several stages, that order doubles the diagrams with
-    /// each bit that lies between, and the bits of the compared registers are best side by side.
+    /// The registers of all stages last. If registers of one stage are compared with each other or with constants,
+    /// their fields are best one after another. If a file compares registers of several stages, that order doubles
+    /// the diagrams with each bit between the compared ones, and the bits of the compared registers are best
+    /// interleaved.
     RegistersLast(Weave),
 }
 
@@ -59,7 +60,7 @@ fn rank(layout: Layout, variable: u32) -> usize {
     }
 }
 
-/// The variables rank by rank, those of one rank by their numbers: each stands in it once.
+/// Each variable once: by rank, and within a rank by number.
 pub fn order_for(alloc: Global, layout: Layout, vars: u32) -> Result<Vec<u32>, Memory>
     ensures { IfOk result (λ order. IsPermutation (range_with_len 0 vars) order.items) }
 {

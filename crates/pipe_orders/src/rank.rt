@@ -1,4 +1,4 @@
-//! Ranks of variables: the one with the smaller rank stands first.
+//! Ranks of variables: the one with the smaller rank comes first.
 ghost use Rattle.std.specs.Prelude.{◌<◌, IfSome, length};
 
 use net_fields::BitRange;
@@ -9,7 +9,7 @@ fn is_in(field: BitRange, variable: u32) -> bool {
     field.first <= variable && variable - field.first < field.bits
 }
 
-/// The place in a list of the field whose bit a variable is.
+/// The index in a list of the field that the variable is a bit of.
 fn field_of(fields: &[BitRange], variable: u32) -> Option<usize>
     ensures { IfSome result (λ k. k < length fields.now) }
 {
@@ -49,11 +49,11 @@ pub fn stages_rank(variable: u32) -> usize
     }
 }
 
-/// How many fields are no numbers of registers.
+/// The number of fields that aren't register numbers.
 const OTHER_COUNT: usize = FIELD_COUNT - places::REGISTER_COUNT;
 
-/// The fields that are no register numbers, stage by stage. With the fields in the order of their numbers the certificate
-/// of a pipeline without bypassing is twenty times as long.
+/// The fields that aren't register numbers, stage by stage. If they are ordered by number instead, the certificate of a
+/// pipeline without bypassing is twenty times as long.
 const OTHERS: [BitRange; OTHER_COUNT] = [
     places::F_ERROR,
     places::F_ICODE,
@@ -87,7 +87,7 @@ const OTHERS: [BitRange; OTHER_COUNT] = [
     places::W_ICODE,
 ];
 
-/// The rank of bit `bit` of register field `k`, so many of which stand side by side.
+/// The rank of bit `bit` of register field `k`, if `width` fields are interleaved.
 fn woven_rank(width: usize, k: usize, bit: u32) -> usize
     requires { 0 < width }
 {
@@ -96,7 +96,7 @@ fn woven_rank(width: usize, k: usize, bit: u32) -> usize
     group.wrapping_add(row).wrapping_add(k % width)
 }
 
-/// The rank of a variable where registers stand last, so many of their fields side by side: atoms first, then the other
+/// The rank of a variable if registers come last, `width` of their fields interleaved: atoms first, then the other
 /// fields, then these.
 pub fn registers_last_rank(width: usize, variable: u32) -> usize
     requires { 0 < width }
@@ -113,7 +113,7 @@ pub fn registers_last_rank(width: usize, variable: u32) -> usize
     }
 }
 
-/// The rank where registers stand last, four of their fields side by side, behind the icode in E.
+/// The rank if the icode in E comes first and registers last, four of their fields interleaved.
 pub fn large_part_rank(variable: u32) -> usize {
     if is_in(places::E_ICODE, variable) {
         0

@@ -61,7 +61,7 @@ module _ (x : RunContext) (p : PipeState) (f : ℕ → ℕ) (c : Schedule) (fetc
   e_is : is_good c'.e ≡ leaves_by k (is_good c.d)
   e_is = good_e k g c q.kept
 
-  -- with nothing good in flight, what is fetched is good
+  -- if no good instruction is in flight, the fetch is good
   enters : is_good c.w ≡ false → is_good c.m ≡ false → is_good c.e ≡ false → is_good c.d ≡ false → is_good c'.d ≡ true
   enters w m e d = by (is_good g) refl
     where

@@ -145,7 +145,7 @@ module _ (x : RunContext) (n t : ℕ) (c : Schedule) (p : PipeState) (f : ℕ �
   cnd_e : is_good c.e ≡ true → set (f name.e_Cnd) ≡ (work_at x.v x.image (in_e c)).cnd
   cnd_e g = ap set b.e_Cnd ∙ set_bit _ ∙ rw (ap (λ k. condition k p.flags) (i.good_e g).ifun, i.flags) refl ∙ sym (follows x.v x.image (in_e c)).cnd
 
-  -- behind the instruction at j, which goes on
+  -- after the instruction at j, which doesn't stop
   next_behind : (j : ℕ) → in_f c ≡ j + 1 → stops_at x.v x.image j ≡ false → (work_at x.v x.image j).next_pc ≡ (state_before x.v x.image (in_f c)).pc
   next_behind j e on = sym (pc_next x.v x.image j (live_at j e) on) ∙ ap (λ k. (state_before x.v x.image k).pc) (sym e)
 
@@ -207,7 +207,7 @@ module _ (x : RunContext) (n t : ℕ) (c : Schedule) (p : PipeState) (f : ℕ �
   early : in_m c ≤ in_f c
   early = omega arith
 
-  -- the instructions that haven't stored stand in D, E and M
+  -- the instructions that haven't stored yet are in D, E and M
   near : in_f c ≤ in_m c + 3
   near = omega (arith, at_most_one (is_good c.m), at_most_one (is_good c.e), at_most_one (is_good c.d))
 

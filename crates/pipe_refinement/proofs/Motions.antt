@@ -1,4 +1,4 @@
--- What the obligations on motion give of the kinds.
+-- What the obligations on motion imply for the kinds.
 use Rattle.std.proofs.Common.{◌≡◌, ℕ, Bool, true, false, not, ◌&&◌, ◌||◌, cond, refl, sym, ap, ◌∙◌, subst}
 use Rattle.std.proofs.lemmas.Bool.{and_parts}
 use Rattle.dp_signals.specs.PipeCycle.{any_both}
@@ -44,7 +44,7 @@ leaves_from true false false false true wg ww l h a b c d e f g = cc
 leaves_from true false false false false true ww l h a b c d e f g = cc
 leaves_from true false false false false false true l h a b c d e f g = cc
 
--- the kinds after the cycle, and where the path will hold
+-- the kinds after the cycle, and why its predicted PC is right if it is on the path
 pub record Motion (x : RunContext) (p : PipeState) (f : ℕ → ℕ) (c : Schedule) (fetch_good : Bool) : Type 0 where
   pub some : is_good (fetched_kind fetch_good) || is_wrong (fetched_kind fetch_good) ≡ true
   pub fetch : is_good (fetched_kind fetch_good) ≡ true → GoodFetch x.v x.s p f c (run_flow x c)

@@ -50,7 +50,7 @@ stay_is k a b n h = by k.stall k.bubble h
     by true t e = refl
     by false t e = cc
 
--- what holds of a register and its kind holds of them behind one motion
+-- what holds for a register and its kind still holds after one motion
 pub moved_all : {A B : Type 0} (R : A → B → Type 0) (k : RegisterControl) (a bubble n : A) (a' bubble' n' : B) →
     (k.stall ≡ true → R a a') → R bubble bubble' → (loads k ≡ true → R n n') → R (moved_by k a bubble n) (moved_by k a' bubble' n')
 moved_all R k a bubble n a' bubble' n' s b l = by k.stall k.bubble s l
@@ -65,7 +65,7 @@ moved_all R k a bubble n a' bubble' n' s b l = by k.stall k.bubble s l
 abbrev pub leaves_by : RegisterControls → Bool → Bool
 leaves_by k good_d = good_d && (loads k.e && not k.d.stall)
 
--- of the kinds, register by register
+-- the same for kinds, register by register
 abbrev keeps_w : RegisterControls → Schedule → Bool
 keeps_w k c = not (is_good c.w && k.w.stall)
 
@@ -87,7 +87,7 @@ kept_e k c h = (and_parts (keeps_e k c) (keeps_d k c) (and_parts (keeps_m k c) (
 kept_d : (k : RegisterControls) (c : Schedule) → keeps_good k c ≡ true → keeps_d k c ≡ true
 kept_d k c h = (and_parts (keeps_e k c) (keeps_d k c) (and_parts (keeps_m k c) (keeps_e k c && keeps_d k c) (and_parts (keeps_w k c) (keeps_m k c && (keeps_e k c && keeps_d k c)) h).1).1).1
 
--- E after the cycle is good where a good D leaves
+-- after the cycle E holds a good instruction exactly if one leaves D
 good_e_by : (s b stays d e m : Bool) → not e || (m && not s) ≡ true → not d || ((d && (not (s || b) && not stays)) || (stays && not (not (s || b)))) ≡ true →
     (s && e) || (not (s || b) && d) ≡ d && (not (s || b) && not stays)
 good_e_by true b stays d e m p q = grind (arith)

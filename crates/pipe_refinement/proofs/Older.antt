@@ -1,4 +1,4 @@
--- What a legal flow gives: an instruction with a younger good one behind it doesn't stop.
+-- In a legal flow, an instruction with a younger good one doesn't stop.
 use Rattle.std.proofs.Common.{◌≡◌, Bool, true, false, ◌||◌, sym, ◌∙◌, arith}
 use Rattle.yis_run_laws.specs.Instructions.{stops_at}
 use Rattle.pipe_refinement.specs.Invariant.{RunContext, run_flow}
@@ -26,7 +26,7 @@ alone : (je rm : Bool) (v : Flow) → flow_legal je rm v ≡ true → v.w.stops 
 unfolding flow_legal
 alone je rm v h s = (grind (arith), grind (arith), grind (arith))
 
--- nothing is wrong where nothing is good
+-- without a good instruction there is no wrong one
 calm_d : (je rm : Bool) (v : Flow) → flow_legal je rm v ≡ true → v.d.good ≡ false → v.e.good ≡ false → v.m.good ≡ false → v.w.stops ≡ false → v.d.wrong ≡ false
 unfolding flow_legal
 calm_d je rm v h d e m w = grind (arith)

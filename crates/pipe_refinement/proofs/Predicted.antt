@@ -1,4 +1,4 @@
--- What is predicted behind a good fetch that goes on as predicted is the next PC.
+-- If a good fetch goes on as predicted, the predicted PC after it is the next PC.
 use Rattle.std.proofs.Common.{◌≡◌, ℕ, ◌+◌, ◌<◌, inl, inr, Bool, true, false, ◌&&◌, ◌==◌, cond, length, IfSome, refl, sym, ap, ◌∙◌}
 use Rattle.std.proofs.lemmas.Bool.{false≢true, not-false}
 use Rattle.y86_base.specs.declared.parts.Stat.TheVariants.{Adr, Aok, Hlt, Ins}
@@ -21,7 +21,7 @@ use Rattle.pipe_refinement.specs.Facts.{FetchFacts, predicted_pc}
 use Rattle.pipe_refinement.specs.Invariant.{RunContext, differ, missed_at, predicted_at}
 use Rattle.pipe_refinement.proofs.Fetch.{LoadsFetched, reads}
 
--- what an instruction that ends with AOK isn't
+-- an instruction that ends with AOK has no error, is valid and is no halt
 stat_parts : (fault error a b : Bool) → is_aok (cond fault Adr (cond error Adr (cond a Ins (cond b Hlt Aok)))) ≡ true → (error ≡ false) × (a ≡ false) × (b ≡ false)
 stat_parts true error a b h = cc
 stat_parts false true a b h = cc
@@ -55,7 +55,7 @@ differ_same true false h = cc
 differ_same false true h = cc
 differ_same false false h = refl
 
--- by the column
+-- by the column of the next PC
 by_next : (n : NextPcColumn) (pc vp vc vm target : ℕ) (cnd taken : Bool) → is_itself n ≡ false → next_is_val_m n ≡ false → (next_is_branch n ≡ true → cnd ≡ taken) →
     IfSome (predicted_pc n vp vc taken) (λ z. target ≡ z) → target ≡ next_address n pc vp vc vm cnd
 by_next Itself pc vp vc vm target cnd taken a l b h = cc

@@ -1,4 +1,4 @@
--- The right value of a source is the register before the instruction in D.
+-- The right value of a source is the value of its register before the instruction in D.
 use Rattle.std.proofs.Common.{◌≡◌, ◌≢◌, ℕ, ◌+◌, ◌<◌, Bool, true, false, ◌==◌, cond, List, refl, sym, ap, ◌∙◌, arith}
 use Rattle.std.proofs.lemmas.Bool.{ne_eqb, eqb-true, or_left}
 use Rattle.y86_base.specs.Registers.{register}

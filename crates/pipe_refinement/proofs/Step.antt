@@ -150,7 +150,7 @@ module _ (x : RunContext) (n t : ℕ) (c : Schedule) (p : PipeState) (f : ℕ �
   live_w' : p'.w.live ≡ kind_is_live c'.w
   live_w' = rw w_is (moved_all (λ (s : StageW) z. s.live ≡ kind_is_live z) k.w p.w bubble_w (loaded_w p f) c.w Bubbled c.m (λ _. i.live_w) refl (λ _. i.live_m))
 
-  -- ---- the run comes to the instructions in flight
+  -- ---- the run reaches the instructions in flight
   lives : (j : ℕ) → j < in_f c' → RunReaches x.v x.image j
   lives j h = by (loads k.d && is_good g) refl (rw (next_in_f k g c kept) at h)
     where

@@ -30,7 +30,7 @@ use Rattle.pipe_refinement.proofs.Right.{none, one}
 use Rattle.pipe_refinement.proofs.Values.{no_store, same_flags, stored_none}
 use Rattle.pipe_refinement.proofs.Words.{live_good}
 
--- what is so after a stop
+-- what holds after a stop
 pub record Ended (x : RunContext) (p : PipeHistory) : Type 0 where
   pub stopped : is_aok p.end ≡ false
   pub halted : ended_by_status p.end ≡ true

@@ -99,7 +99,7 @@ module _ (x : RunContext) (t : ℕ) (c : Schedule) (p : PipeState) (f : ℕ → 
       de.val_b l far ∙ right_is x t c p f rs image i b a ex me d (f name.d_srcB) (f name.d_rvalB) lt b.d_rvalB (λ e. de.late_b l far e)
       ∙ ap (register (state_before x.v x.image (in_d c)).regs) src_b_is ∙ sym (follows x.v x.image (in_d c)).val_b
 
-  -- a load in E whose word is wanted: only with lf, by a store
+  -- unless E loads this register, d_valA is the instruction's valA
   val_a_is : w.src_a ≢ 15 → (is_good c.e ≡ true → p.e.dst_m ≢ f name.d_srcA) → f name.d_valA ≡ w.val_a
   val_a_is ne apart =
       let far : f name.d_srcA ≢ 15 = λ e. ne (sym src_a_is ∙ e) in
@@ -107,7 +107,7 @@ module _ (x : RunContext) (t : ℕ) (c : Schedule) (p : PipeState) (f : ℕ → 
       de.val_a l far apart ∙ right_is x t c p f rs image i b a ex me d (f name.d_srcA) (f name.d_rvalA) lt b.d_rvalA apart
       ∙ ap (register (state_before x.v x.image (in_d c)).regs) src_a_is ∙ sym (follows x.v x.image (in_d c)).val_a
 
-  -- the next E is free of its valA where the next M, the E of now, loads that register
+  -- valA of the next E may still be on its way (free) if the instruction in E, which moves to M, loads that register
   pub words_e : (free : Bool) → (free ≡ false → is_good c.e ≡ true → p.e.dst_m ≡ f name.d_srcA → x.s.lf && stores_val_a (row x.v p.d.icode).memory ≡ true → ⊥) →
       HoldsInE x (in_d c) free (loaded_e p f)
   words_e free k = record {
@@ -144,7 +144,7 @@ module _ (x : RunContext) (t : ℕ) (c : Schedule) (p : PipeState) (f : ℕ → 
   live_e : RunReaches x.v x.image (in_e c)
   live_e = i.live (in_e c) (omega (arith, ap count e))
 
-  -- with lf: the word that M loads now is the register that the store in E reads
+  -- with lf: the word that M loads now is valA of the store in E
   loaded_now : stores_val_a re.memory ≡ true → is_good c.m ≡ true → p.m.dst_m ≡ p.e.src_a → f name.m_valM ≡ we.val_a
   loaded_now s m q =
       let hm = i.good_m m in

@@ -1,4 +1,4 @@
--- What the obligations say of the values of a cycle, stage by stage (CS:APP 3e, section 4.5).
+-- What the obligations say about the values of a cycle, stage by stage (CS:APP 3e, section 4.5).
 use Rattle.std.specs.Prelude.{◌≡◌, ◌≢◌, ℕ, Bool, true, false, not, ◌&&◌, ◌||◌, ◌⊎◌, ◌==◌, Option, Some, None, IfSome, if◌then◌else◌}
 use Rattle.y86_base.specs.Stat.{stat_number}
 use Rattle.y86_base.specs.declared.parts.Variant.{Variant}
@@ -17,7 +17,7 @@ use Rattle.pipe_refinement.specs.Kinds.{is_good, is_wrong, Schedule, requested_c
 use Rattle.pipe_motion.specs.Predictions.{predicts}
 use Rattle.pipe_motion.specs.declared.settings.Settings.{Settings}
 
--- the PC that is predicted behind an instruction, where the prediction matters
+-- the predicted PC after an instruction, if the prediction matters
 abbrev pub predicted_pc : NextPcColumn → ℕ → ℕ → Bool → Option ℕ
 predicted_pc Itself val_p val_c taken = None
 predicted_pc Fall val_p val_c taken = Some val_p
@@ -25,7 +25,7 @@ predicted_pc Branch val_p val_c taken = Some (if taken then val_c else val_p)
 predicted_pc Target val_p val_c taken = Some val_c
 predicted_pc Loaded val_p val_c taken = None
 
--- O1 to O5: what is fetched, and what is predicted behind it
+-- O1 to O5: what is fetched, and the predicted PC after it
 pub record FetchFacts (v : Variant) (s : Settings) (f : ℕ → ℕ) : Type 0 where
   pub icode : f name.f_icode ≡ f name.imem_icode
   pub ifun : f name.f_ifun ≡ f name.imem_ifun
@@ -38,11 +38,11 @@ pub record FetchFacts (v : Variant) (s : Settings) (f : ℕ → ℕ) : Type 0 wh
       (predicts s (f name.imem_ifun) (signed_below (f name.f_valC) (f name.f_valP))))
       (λ n. f name.f_predPC ≡ n)
 
--- the destination of valE in E, behind the condition
+-- the destination of valE in E, after the condition
 abbrev pub late_dst_e : Variant → PipeState → (ℕ → ℕ) → ℕ
 late_dst_e v p f = destination_e (row v p.e.icode).conditional (set (f name.e_Cnd)) p.e.dst_e
 
--- the value of a source among the older instructions, the youngest first; a load in E apart
+-- the value of a source among the older instructions, the youngest first; a load in E isn't considered
 abbrev pub right_value : Variant → PipeState → (ℕ → ℕ) → Bool → ℕ → ℕ → ℕ
 right_value v p f good_e source rest =
     if good_e && (source == late_dst_e v p f) then f name.e_valE
@@ -74,11 +74,11 @@ pub record DecodeFacts (v : Variant) (s : Settings) (p : PipeState) (f : ℕ →
 abbrev pub store_word_comes_late : Settings → Variant → PipeState → Bool → Bool
 store_word_comes_late s v p good_m = s.lf && (stores_val_a (row v p.e.icode).memory && (good_m && (p.m.dst_m == p.e.src_a)))
 
--- valA goes on to M: rmmovq, ret, pushq, popq, and with valP in its place jXX and call
+-- valA is passed on to M: for rmmovq, ret, pushq, popq; or valP in its place: for jXX and call
 abbrev pub needs_select_a : Row → Bool
 needs_select_a r = select_a_is_val_a r || select_a_is_val_p r
 
--- O12 to O14, O16, O17, and the clause of the setting tv: the ALU gives the target of a jump
+-- O12 to O14, O16, O17, and the clause of the setting tv: the ALU computes the target of a jump
 pub record ExecuteFacts (v : Variant) (s : Settings) (p : PipeState) (f : ℕ → ℕ) (c : Schedule) : Type 0 where
   pub alu_a : is_good c.e ≡ true → p.e.stat ≡ 1 → has_operand_a (row v p.e.icode).alu_a ≡ true →
       f name.aluA ≡ operand_a (row v p.e.icode).alu_a p.e.val_a p.e.val_c
@@ -115,7 +115,7 @@ pub record AccessFacts (v : Variant) (p : PipeState) (f : ℕ → ℕ) (c : Sche
   pub reads : set (f name.mem_read) ≡ is_good c.m && is_load (row v p.m.icode).memory
   pub writes : set (f name.mem_write) ≡ is_good c.m && is_store (row v p.m.icode).memory
 
--- O15, in stopping cycles too: who sets the flags
+-- O15, in stopping cycles too: which instruction sets the flags
 abbrev pub FlagsIs : Variant → PipeState → (ℕ → ℕ) → Schedule → Type 0
 FlagsIs v p f c = set (f name.set_cc) ≡ is_good c.e && ((p.e.stat == 1) && (row v p.e.icode).sets_flags)
 
@@ -125,7 +125,7 @@ pub record AlwaysFacts (v : Variant) (p : PipeState) (f : ℕ → ℕ) (c : Sche
   pub access : AccessFacts v p f c
   pub stat : f name.Stat ≡ (if is_good c.w then p.w.stat else 1)
 
--- the PC is the right one behind the youngest good instruction, a jump or a ret
+-- the PC is the right one after the youngest good instruction, a jump or a ret
 pub data RightPc (v : Variant) (s : Settings) (p : PipeState) (f : ℕ → ℕ) (c : Schedule) : Type 0 where
   jump_e : is_good c.d ≡ false → is_good c.e ≡ true → p.e.stat ≡ 1 → next_is_branch (row v p.e.icode).next ≡ true →
       f name.f_pc ≡ (if set (f name.e_Cnd) then p.e.val_c else p.e.val_a) → RightPc v s p f c
@@ -143,7 +143,7 @@ pub record GoodFetch (v : Variant) (s : Settings) (p : PipeState) (f : ℕ → �
   pub goes_on : youngest_stops y ≡ false
   pub right : ((f name.f_pc ≡ p.pred_pc) × (path y ≡ true)) ⊎ RightPc v s p f c
 
--- O23 to O27 of this flow, where the fetch is good or not, with the facts of what a good one brings
+-- O23 to O27 for this flow; `good` says whether the fetch is good, `facts` are those of the instruction of a good fetch
 pub record MotionFacts (v : Variant) (s : Settings) (p : PipeState) (f : ℕ → ℕ) (c : Schedule) (y : Flow) (good : Bool) (facts : StageFlow) : Type 0 where
   pub fetch : good ≡ true → GoodFetch v s p f c y
   pub apart : o23 (requested_controls f) ≡ true

@@ -1,4 +1,4 @@
--- Which instruction of the run is in which pipeline register, and what the register holds of it.
+-- Which instruction of the run is in which pipeline register, and which of its words the register holds.
 use Rattle.std.specs.Prelude.{◌≡◌, ◌≢◌, ◌⊎◌, ℕ, ◌+◌, ◌<◌, ◌≤◌, Bool, true, false, not, ◌&&◌, ◌||◌, ◌==◌, List, length, if◌then◌else◌}
 use Rattle.y86_base.specs.Stat.{stat_number}
 use Rattle.y86_base.specs.declared.parts.Variant.{Variant}
@@ -25,14 +25,14 @@ use Rattle.pipe_motion.specs.Predictions.{predicts}
 use Rattle.pipe_motion.specs.declared.settings.Settings.{Settings}
 use Rattle.pipe_refinement.specs.Facts.{store_word_comes_late, needs_select_a}
 
--- an instruction set, what is known of a design, and an image
+-- an instruction set, the settings of a design, and an image
 pub record RunContext : Type 0 where
   pub v : Variant
   pub s : Settings
   pub image : List ℕ
 
 -- ---- the instructions of the run as stage flows
--- instruction i is predicted as a taken jump; it is a jump that goes another way
+-- instruction i is predicted as a taken jump; it is a mispredicted jump
 abbrev pub predicted_at : RunContext → ℕ → Bool
 predicted_at x i =
     predicts x.s (work_at x.v x.image i).ifun (signed_below (work_at x.v x.image i).val_c (work_at x.v x.image i).val_p)
@@ -45,7 +45,7 @@ missed_at x i =
     is_aok (work_at x.v x.image i).fetch_stat
     && (next_is_branch (instruction_row x.v x.image i).next && differ (work_at x.v x.image i).cnd (predicted_at x i))
 
--- what stands in a register, where it is instruction i if it is one of the run
+-- the state of a register of this kind; if it holds an instruction of the run, that is instruction i
 abbrev pub run_stage_flow : RunContext → StageKind → ℕ → StageFlow
 run_stage_flow x k i = record {
   good = is_good k;
@@ -78,7 +78,7 @@ pub record HoldsInD (x : RunContext) (i : ℕ) (d : StageD) : Type 0 where
   pub val_c : d.val_c ≡ (work_at x.v x.image i).val_c
   pub val_p : d.val_p ≡ (work_at x.v x.image i).val_p
 
--- valA and valB count where there is a source; valA may still be on its way (free)
+-- valA and valB count if there is a source; valA may still be on its way (free)
 pub record HoldsInE (x : RunContext) (i : ℕ) (free : Bool) (e : StageE) : Type 0 where
   pub trail : TrailOf x i e.trail
   pub stat : e.stat ≡ stat_number (work_at x.v x.image i).fetch_stat
@@ -93,7 +93,7 @@ pub record HoldsInE (x : RunContext) (i : ℕ) (free : Bool) (e : StageE) : Type
   pub val_b : (work_at x.v x.image i).src_b ≢ 15 → e.val_b ≡ (work_at x.v x.image i).val_b
   pub val_p : select_a_is_val_p (instruction_row x.v x.image i) ≡ true → e.val_a ≡ (work_at x.v x.image i).val_p
 
--- what M's valA is of an instruction: valA, or valP of jXX and call
+-- M's valA for an instruction: its valA, or for jXX and call its valP
 abbrev pub select_a : Row → Work → ℕ
 select_a r w = if select_a_is_val_p r then w.val_p else w.val_a
 
@@ -121,7 +121,7 @@ pub record HoldsInW (x : RunContext) (i : ℕ) (w : StageW) : Type 0 where
   pub val_e : has_operand_a (instruction_row x.v x.image i).alu_a ≡ true → w.val_e ≡ (work_at x.v x.image i).val_e
   pub val_m : w.val_m ≡ (work_at x.v x.image i).val_m
 
--- ---- bubbles, and what stands behind them
+-- ---- bubbles
 pub record IsBubbleD (d : StageD) : Type 0 where
   pub stat : d.stat ≡ 0
   pub icode : d.icode ≡ 1
@@ -152,7 +152,7 @@ pub record IsBubbleW (w : StageW) : Type 0 where
   pub dst_e : w.dst_e ≡ 15
   pub dst_m : w.dst_m ≡ 15
 
--- ---- wrong instructions: their numbers are those of some reading, as their rows have them
+-- ---- wrong instructions: their numbers come from some bytes, decoded by their rows
 pub record AllowedD (v : Variant) (d : StageD) : Type 0 where
   pub error : Bool
   pub stat : d.stat ≡ stat_number (fetch_status error d.icode)
@@ -177,7 +177,7 @@ pub record AllowedE (v : Variant) (e : StageE) : Type 0 where
   pub dst_e : e.dst_e ≡ register_number (row v from.icode).dst_e from.r_a from.r_b
   pub dst_m : e.dst_m ≡ register_number (row v from.icode).dst_m from.r_a from.r_b
 
--- no good instruction in E waits for the word of a load in M, but a store that takes its word late
+-- no good instruction in E waits for the word of a load in M, except a store that takes its word late
 abbrev pub no_load_awaited : Settings → Variant → PipeState → Schedule → Bool
 no_load_awaited s v p c =
     not (is_good c.e && (is_good c.m && not (p.m.dst_m == 15)))

@@ -62,7 +62,7 @@ in_d c = in_e c + count (is_good c.e)
 abbrev pub in_f : Schedule → ℕ
 in_f c = in_d c + count (is_good c.d)
 
--- a register by what is asked of it
+-- a register after a cycle with these stall and bubble signals
 abbrev pub moved_by : {A : Type 0} → RegisterControl → A → A → A → A
 moved_by k held bubble loaded = moved (update_by k.stall k.bubble) held bubble loaded
 
@@ -76,7 +76,7 @@ next_schedule k fetched c = record {
   w = moved_by k.w c.w Bubbled c.m;
 }
 
--- what the words of a cycle ask of the five registers
+-- the stall and bubble signals of the five registers in a cycle
 abbrev pub requested_controls : (ℕ → ℕ) → RegisterControls
 requested_controls f = record {
   f = record { stall = set (f name.F_stall); bubble = set (f name.F_bubble) };

@@ -7,7 +7,7 @@ use Rattle.y86_isa.specs.Run.{run, records}
 use Rattle.hcl_types.specs.declared.term.Term.{Term}
 use Rattle.dp_signals.specs.PipeRun.{PipeHistory, PipeRun, ended_by_status, end_pc}
 
--- a machine that has stopped holds what the machine of the instructions holds, and that one doesn't go on either
+-- a pipelined machine that has stopped holds what the machine of the instructions holds, and that one has stopped too
 pub record StopsAs (p : PipeHistory) (m : Machine) : Type 0 where
   pub registers : p.state.regs ≡ m.regs
   pub flags : p.state.flags ≡ m.flags
@@ -17,9 +17,9 @@ pub record StopsAs (p : PipeHistory) (m : Machine) : Type 0 where
   pub not_aok : m.stat ≢ Aok
 
 -- For every machine that the design reaches on the image in k cycles: its records are the first records of the run of
--- instructions, and its registers are those after them. Where it has stopped, it is as the machine of that run. The cycle in which a
--- record that isn't AOK retires stops it. It never ends by a register that is stalled and bubbled. By the end of cycle 5n, n instructions
--- have retired, or it has stopped.
+-- instructions, and its registers are those after them. If it has stopped, it is like the machine of that run. It
+-- stops in the cycle in which a record that isn't AOK retires. It never ends because a register is both stalled and
+-- bubbled. By the end of cycle 5n, n instructions have retired, or it has stopped.
 pub record Refines (v : Variant) (terms : List Term) (image : List ℕ) (k : ℕ) : Type 0 where
   pub records : (p : PipeHistory) → PipeRun v terms image k p → p.records ≡ records v image (length p.records)
   pub registers : (p : PipeHistory) → PipeRun v terms image k p → p.state.regs ≡ (run v image (length p.records)).regs

@@ -1,4 +1,4 @@
--- The refinement, over what the values of each cycle meet.
+-- The refinement, from facts about the values of each cycle.
 use Rattle.std.specs.Prelude.{◌≡◌, ℕ, ◌<◌, Bool, true, false, List}
 use Rattle.y86_isa.specs.declared.machine.Rec.{Rec}
 use Rattle.y86_isa.specs.Run.{IsImage}
@@ -12,7 +12,8 @@ use Rattle.pipe_refinement.specs.Facts.{AlwaysFacts, CycleFacts}
 use Rattle.pipe_refinement.specs.Invariant.{RunContext, CouplingInvariant, run_stage_flow, run_flow}
 use Rattle.pipe_refinement.specs.Refines.{Refines}
 
--- what the obligations say of a cycle: some of it always, the rest where the cycle isn't stopping; its fetch is good or not
+-- what the obligations say about a cycle: some facts always, the rest if the cycle isn't stopping; its fetch is good
+-- or not
 pub record HasFacts (x : RunContext) (c : Schedule) (p : PipeState) (f : ℕ → ℕ) : Type 0 where
   pub always : AlwaysFacts x.v p f c
   pub cycle : (is_good c.w ≡ true → stops_at x.v x.image (in_w c) ≡ false) →

@@ -1,5 +1,6 @@
-//! The pipeline refines the run of instructions: where the obligations hold of a design, its pipelined machine computes what the
-//! instructions compute, for every image whose instructions fetch nothing that one of the three before them stored.
+//! The pipeline refines the run of instructions: if a design meets the obligations, its pipelined machine computes
+//! what the instructions compute, for every image whose instructions fetch nothing that one of the three before them
+//! stored.
 #![tactic(auto)]
 
 mod laws;

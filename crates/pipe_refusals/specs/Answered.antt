@@ -1,4 +1,5 @@
--- The answer on a file for PIPE: the verdict, and of a refusal each obligation that is false somewhere with its least counterexample.
+-- The answer on a file for PIPE: the verdict, and for a refusal each obligation that is false somewhere, with its
+-- least counterexample.
 use Rattle.std.specs.Prelude.{ℕ, ◌+◌, ◌≡◌, ◌≤◌, ◌<◌, ◌==◌, Bool, true, false, List, ◌∷◌, get_or, length}
 use Rattle.std.specs.List.{AllByRecursion}
 use Rattle.y86_base.specs.declared.parts.Variant.{Variant}
@@ -19,7 +20,8 @@ use Rattle.pipe_refusals.specs.declared.answer.PipeAnswer.TheVariants.{Yes, No}
 use Rattle.pipe_diagnosis.specs.declared.refusal.Refusal.{Refusal}
 use Rattle.pipe_diagnosis.specs.declared.refusal.Refutation.{Refutation}
 
--- No valuation at which obligation i is false is less than w: where such a valuation differs from w first, w has 0 and it has 1.
+-- w is at most each valuation at which obligation i is false: where such a valuation first differs from w, w has 0
+-- and it has 1.
 abbrev pub IsLeast : Variant → List Term → Settings → List Atom → ℕ → List Bool → Type 0
 IsLeast v terms s atoms i w =
     (u : List Bool) → length u ≡ bit_count + length atoms → IsFalseAt v atoms (PipeControls terms) s i u

@@ -24,7 +24,7 @@ pub enum PipeAnswer {
     No(Refusal),
 }
 
-/// The rules from one on.
+/// The rules from an index on.
 fn rules_from(list: &[Rule], from: usize) -> &[Rule]
     requires { from ≤ length list.now }
     ensures { result.now ≡ drop from list.now }
@@ -32,7 +32,7 @@ fn rules_from(list: &[Rule], from: usize) -> &[Rule]
     &list[from..]
 }
 
-/// Refutes the first obligation behind some that is false somewhere.
+/// Refutes the first obligation after the first `from` ones that is false somewhere.
 fn refute(
     alloc: Global,
     file: &PipeFile<'_>,
@@ -72,7 +72,8 @@ fn put(out: &mut Vec<Refutation>, refutation: Refutation) -> Result<(), Memory>
     }
 }
 
-/// Refutes the next obligation that is false somewhere, and says up to which obligation all are decided then.
+/// Refutes the next obligation that is false somewhere, and returns the number up to which all obligations are then
+/// decided.
 #[tactic(auto, using(crate::proofs::Refuting::gates_from))]
 fn refute_next(
     alloc: Global,
@@ -103,7 +104,7 @@ fn refute_next(
     }
 }
 
-/// Refutes the obligations behind the first false one.
+/// Refutes the obligations after the first false one.
 fn refute_others(
     alloc: Global,
     file: &PipeFile<'_>,
@@ -155,8 +156,9 @@ fn refuse(
     })
 }
 
-/// The verdict on a file for PIPE, and the diagnosis of a refusal. The verdict is that of `check_pipe`: where it is yes, the file's
-/// machine refines the run of instructions on every image whose instructions fetch no byte that one of the three before them stored.
+/// The verdict on a file for PIPE, and the diagnosis of a refusal. The verdict is that of `check_pipe`: if it is yes,
+/// the file's machine refines the run of instructions on every image whose instructions fetch no byte that one of the
+/// three before them stored.
 pub fn diagnose_pipe(
     alloc: Global,
     v: Variant,

@@ -59,7 +59,7 @@ module _ (v : Variant) (s : Settings) (c : Fields) (y : Flow) (mv : RegisterCont
   abbrev pub required9 : List Requirement
   required9 = number signal.d_dstM (register_number (row v c.d.icode).dst_m c.d.r_a c.d.r_b)
 
-  -- a source's value; where that isn't there yet, nothing is right: the instruction has to wait
+  -- a source's value; if it isn't known yet, no word is right: the instruction has to wait
   abbrev pub right_word : Bool → ℕ → ℕ → ℕ → List Requirement
   right_word free name source rest =
       unless (is_number cv source no_register)

@@ -13,7 +13,7 @@ use pipe_motion::Settings;
 use y86_base::Variant;
 use y86_isa::{next_is_branch, next_is_val_m, row};
 
-/// What stands in a register.
+/// The state of a register.
 #[derive(Clone, Copy)]
 pub struct StageFlowNow {
     pub good: bool,
@@ -23,7 +23,7 @@ pub struct StageFlowNow {
     pub missed: bool,
 }
 
-/// D to W.
+/// The states of D to W.
 #[derive(Clone, Copy)]
 pub struct FlowNow {
     pub d: StageFlowNow,
@@ -57,7 +57,7 @@ pub fn predicts(s: &Settings, ifun: u64, back: bool) -> bool
     all.get(ifun as usize).copied().unwrap_or(false)
 }
 
-/// By its kind and three truths.
+/// The state of a register by its kind and three truths.
 fn stage_flow_by(kind: u64, stops: bool, ret: bool, missed: bool) -> StageFlowNow
     ensures { as_stage_flow result ≡ spec.stage_flow_by kind stops ret missed }
 {
@@ -71,28 +71,28 @@ fn stage_flow_by(kind: u64, stops: bool, ret: bool, missed: bool) -> StageFlowNo
     }
 }
 
-/// A conditional jump that goes on.
+/// A conditional jump with status 1 (AOK).
 pub fn is_jump(v: Variant, stat: u64, icode: u64) -> bool
     ensures { result ≡ spec.is_jump v stat icode }
 {
     stat == 1 && next_is_branch(row(v, icode).next)
 }
 
-/// A jump's way isn't the predicted one.
+/// A jump doesn't go the predicted way.
 pub fn other_way(s: &Settings, ifun: u64, taken: u64, back: u64) -> bool
     ensures { result ≡ not (agree (numbers.set taken) (spec_predictions.predicts s.now ifun (numbers.set back))) }
 {
     set(taken) != predicts(s, ifun, set(back))
 }
 
-/// It stops the machine.
+/// The instruction stops the machine: by its status, or by a fault at memory.
 pub fn stops_by(stat: u64, fault: u64) -> bool
     ensures { result ≡ spec.stops_by stat fault }
 {
     stat != 1 || set(fault)
 }
 
-/// What stands in the stages.
+/// The flow of the stages.
 #[tactic(auto, unfolding(pipe_obligations::specs::StageFlows::flow_of))]
 pub fn flow_of(v: Variant, s: &Settings, l: &Lines) -> FlowNow
     ensures { as_flow result ≡ spec.flow_of v s.now (fields_in l.now) }

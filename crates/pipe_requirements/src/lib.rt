@@ -1,7 +1,7 @@
 //! What PIPE's obligations require of each signal at a valuation, as data.
 //!
 //! Each of the obligations 1 to 22 is met exactly where each of its requirements is (`law_of_requirements`).
-//! For example obligation 20 requires `m_stat` to be ADR where the memory reports an error, and else M's status.
+//! For example obligation 20 requires `m_stat` to be ADR if the memory reports an error, and M's status otherwise.
 //! The obligations 23 to 27 require nothing of a single signal: `motion_repairs` is about these.
 #![tactic(auto)]
 

@@ -31,7 +31,7 @@ pub struct Now<'a> {
     pub leaves: &'a [Leaf],
 }
 
-/// What is predicted behind an instruction.
+/// The predicted PC after an instruction, if the prediction matters.
 pub fn predicted_leaf(next: NextPcColumn, taken: bool) -> Option<Leaf>
     ensures { result ≡ rule.predicted_leaf next taken }
 {
@@ -62,14 +62,14 @@ impl<'a> Now<'a> {
         )
     }
 
-    /// The source is the register that the good instruction in E loads.
+    /// The source is the register that the good instruction in E is loading.
     pub fn loaded_in_e(&self, source: NameId) -> bool
         ensures { result ≡ rule.loaded_in_e self.now.v self.now.s.now (fields_in self.now.l.now) (as_flow self.now.y.now) (as_register_controls self.now.mv.now) unread (at self.now.leaves.now) source }
     {
         self.y.e.good && is_number(self.leaves, source, self.l.e.dst_m)
     }
 
-    /// Where the value of a source stands.
+    /// Where the value of a source is.
     pub fn right_value(&self, source: NameId, rest: NameId) -> Leaf
         ensures { result ≡ rule.right_value self.now.v self.now.s.now (fields_in self.now.l.now) (as_flow self.now.y.now) (as_register_controls self.now.mv.now) unread (at self.now.leaves.now) source rest }
     {
@@ -89,14 +89,14 @@ impl<'a> Now<'a> {
         }
     }
 
-    /// The good instruction in E goes on.
+    /// A good instruction with status 1 (AOK) is in E.
     pub fn works_in_e(&self) -> bool
         ensures { result ≡ rule.works_in_e self.now.v self.now.s.now (fields_in self.now.l.now) (as_flow self.now.y.now) (as_register_controls self.now.mv.now) unread (at self.now.leaves.now) }
     {
         self.y.e.good && self.l.e.stat == 1
     }
 
-    /// A store takes the word that it stores late.
+    /// A store takes the word that it stores from the load in M.
     pub fn word_comes_late(&self) -> bool
         ensures { result ≡ rule.word_comes_late self.now.v self.now.s.now (fields_in self.now.l.now) (as_flow self.now.y.now) (as_register_controls self.now.mv.now) unread (at self.now.leaves.now) }
     {
@@ -105,7 +105,7 @@ impl<'a> Now<'a> {
                 && (self.y.m.good && self.l.m.dst_m == self.l.e.src_a))
     }
 
-    /// What a jump that is fetched is predicted as.
+    /// The predicted PC after the fetched instruction, if the prediction matters.
     pub fn predicted(&self) -> Option<Leaf>
         ensures { result ≡ rule.predicted_leaf (table.row self.now.v self.now.l.now.f.icode).next (predictions.predicts self.now.s.now self.now.l.now.f.ifun (numbers.set self.now.l.now.f.back)) }
     {

@@ -1,5 +1,5 @@
--- What the gates of obligations 1 to 9 stand on: the fields are among the variables, and the signals of fetch and decode have control
--- values; and what the row of an icode asks of some of them.
+-- The premises of the gates of obligations 1 to 9: the fields are among the variables, and the signals of fetch and
+-- decode have control values; and what the row of an icode demands of some of these signals.
 use Rattle.std.specs.Prelude.{ℕ, ◌≤◌, Bool, IsTrue, List}
 use Rattle.y86_base.specs.Stat.{stat_number}
 use Rattle.y86_isa.specs.declared.columns.Row.{Row}
@@ -30,7 +30,7 @@ pub record IsFrontReady (vars : ℕ) (ctl : List Entry) : Type 0 where
   pub d_dstE : IsTrue (has_picks ctl signal.d_dstE)
   pub d_dstM : IsTrue (has_picks ctl signal.d_dstM)
 
--- what is asked where the icode of F, or of D, is this one and has this row
+-- what is demanded if the icode of F, or of D, is this one and has this row
 abbrev pub demand_in_front : FrontRule → ℕ → Row → Fields → Assignment → (ℕ → Leaf) → Bool
 demand_in_front Status code r c α cv = is_number cv signal.f_stat (stat_number (fetch_status (set c.f.error) code))
 demand_in_front RegisterByte code r c α cv = is_truth α cv signal.need_regids r.has_byte

@@ -1,5 +1,5 @@
--- What the gates of the stages' rules stand on: the fields are among the variables, and the signals that the rules ask have control
--- values; and what the row of an icode asks of some of them.
+-- The premises of the gates of the stages' rules: the fields are among the variables, and the signals in the rules
+-- have control values; and what the row of an icode demands of some of these signals.
 use Rattle.std.specs.Prelude.{ℕ, ◌≤◌, ◌||◌, not, IsTrue, List, Bool}
 use Rattle.ctl_atoms.specs.declared.leaf.Leaf.{Leaf}
 use Rattle.ctl_formula.specs.declared.controls.Entry.{Entry}

@@ -1,5 +1,5 @@
-//! What is asked of the execute stage: obligations 12 to 17, and the jump's target. `good` is the gate that E holds a good
-//! instruction.
+//! The obligations on the execute stage: 12 to 17, and the jump's target. `good` is the gate for "E holds a good
+//! instruction".
 #![tactic(auto, using(nets::proofs::Truths::begins_more, ctl_formula::proofs::Inside::inside_more, crate::proofs::Joined::ready_more), unfolding(pipe_fields::specs::Layout::fields_of))]
 
 ghost use Rattle.std.specs.Prelude.{◌≡◌, ◌<◌, ◌≤◌, ◌+◌, ◌==◌, ◌&&◌, ◌||◌, not, if◌then◌else◌, length, IfOk, IsTrue};
@@ -28,7 +28,7 @@ use pipe_fields::places::{E_CND, E_DST_E, E_ICODE, E_SRC_A, E_STAT, M_DST_M};
 use pipe_gates::{RowTest, row_has};
 use y86_base::{Memory, Variant};
 
-/// The good instruction in E goes on.
+/// E holds a good instruction with status 1 (AOK).
 fn works(b: &mut NetBuilder, good: u64) -> Result<u64, Memory>
     requires vars { bit_count ≤ b.old.vars }
     requires good { good < length b.old.gates }
@@ -39,7 +39,7 @@ fn works(b: &mut NetBuilder, good: u64) -> Result<u64, Memory>
     b.and(good, fine)
 }
 
-/// What a row asks of E, of a good instruction that goes on.
+/// The demand of a row on E, for a good instruction with status 1 (AOK).
 pub fn demand_in_e(
     b: &mut NetBuilder,
     ctl: &Controls,
@@ -59,7 +59,7 @@ pub fn demand_in_e(
     implies(b, works, asked)
 }
 
-/// Obligation 14: the function of the ALU, where it is used.
+/// Obligation 14: the function of the ALU, if the ALU is used.
 pub fn obligation_14(
     b: &mut NetBuilder,
     ctl: &Controls,
@@ -96,7 +96,7 @@ pub fn truth_where(
     b.equal(want, told)
 }
 
-/// Obligation 15: the flags are set by a good instruction that goes on and sets them.
+/// Obligation 15: the flags are set exactly by a good instruction with status 1 (AOK) that sets flags.
 pub fn obligation_15(
     b: &mut NetBuilder,
     ctl: &Controls,
@@ -115,7 +115,7 @@ pub fn obligation_15(
     truth_where(b, ctl, signal::SET_CC, works, sets)
 }
 
-/// A good instruction carries valA, or valP in its place, on to M.
+/// The good instruction in E passes valA, or valP in its place, on to M.
 fn alu_passes_target(b: &mut NetBuilder, v: Variant, good: u64) -> Result<u64, Memory>
     requires vars { bit_count ≤ b.old.vars }
     requires good { good < length b.old.gates }
@@ -128,7 +128,7 @@ fn alu_passes_target(b: &mut NetBuilder, v: Variant, good: u64) -> Result<u64, M
     b.and(good, any)
 }
 
-/// What E stores is what M loads, where M holds a good instruction.
+/// E stores the word that M loads, and `loads` holds: the instruction in M is good.
 fn stores_loaded(b: &mut NetBuilder, v: Variant, loads: u64) -> Result<u64, Memory>
     requires vars { bit_count ≤ b.old.vars }
     requires loads { loads < length b.old.gates }
@@ -155,7 +155,7 @@ fn word_comes_late(b: &mut NetBuilder, lf: bool, v: Variant, loads: u64) -> Resu
     }
 }
 
-/// Obligation 16: e_valA is the value that the instruction carries on to M.
+/// Obligation 16: e_valA is the value that the instruction passes on to M.
 pub fn obligation_16(
     b: &mut NetBuilder,
     ctl: &Controls,
@@ -186,7 +186,7 @@ pub fn obligation_16(
     implies(b, carried, taken)
 }
 
-/// The condition of the move in E does not hold.
+/// The condition of the conditional move in E doesn't hold.
 fn loses(b: &mut NetBuilder, v: Variant) -> Result<u64, Memory>
     requires vars { bit_count ≤ b.old.vars }
     ensures extends { ExtendsNet b.old b.new }
@@ -240,7 +240,7 @@ pub fn obligation_17(
     b.or(wrong, told)
 }
 
-/// E holds a good jump that goes on.
+/// E holds a good jump with status 1 (AOK).
 fn jumps(b: &mut NetBuilder, v: Variant, good: u64) -> Result<u64, Memory>
     requires vars { bit_count ≤ b.old.vars }
     requires good { good < length b.old.gates }

@@ -1,4 +1,4 @@
-//! What is asked of fetch and decode, whatever stands in the stages: obligations 1 to 9.
+//! The obligations on fetch and decode, 1 to 9, which don't depend on the kinds of what the stages hold.
 #![tactic(auto, using(nets::proofs::Truths::begins_more, ctl_formula::proofs::Inside::inside_more), unfolding(pipe_fields::specs::Layout::fields_of))]
 
 ghost use Rattle.std.specs.Prelude.{◌<◌, ◌≤◌, ◌&&◌, ◌||◌, not, IfOk};
@@ -30,8 +30,8 @@ use pipe_motion::Settings;
 use y86_base::{Memory, Variant};
 use y86_isa::{NextPcColumn, Row};
 
-/// What is asked by an icode and its row: of f_stat, need_regids, need_valC and f_predPC for what is fetched, and of d_srcA,
-/// d_srcB, d_dstE and d_dstM for what stands in D.
+/// What an icode and its row demand: of f_stat, need_regids, need_valC and f_predPC for the fetched instruction, and of
+/// d_srcA, d_srcB, d_dstE and d_dstM for the one in D.
 #[derive(Clone, Copy, Debug, PartialEq, Eq)]
 pub enum FrontRule {
     Status,
@@ -44,7 +44,7 @@ pub enum FrontRule {
     DestinationM,
 }
 
-/// A jump of this ifun and back bit is predicted as taken.
+/// A jump with this ifun and back bit is predicted as taken.
 fn predicted(b: &mut NetBuilder, s: &Settings) -> Result<u64, Memory>
     requires { bit_count ≤ b.old.vars }
     ensures extends { ExtendsNet b.old b.new }
@@ -56,7 +56,7 @@ fn predicted(b: &mut NetBuilder, s: &Settings) -> Result<u64, Memory>
     choose(b, ahead, forward, backward)
 }
 
-/// f_predPC is the target of a jump that is predicted as taken, and what stands behind any other.
+/// f_predPC is the target of a jump that is predicted as taken, and the PC after any other.
 fn jump_predicted(b: &mut NetBuilder, ctl: &Controls, s: &Settings) -> Result<u64, Memory>
     requires inside { IsInside b.old ctl.now }
     requires ready { IsFrontReady b.old.vars ctl.now }
@@ -107,7 +107,7 @@ fn next_predicted(
     }
 }
 
-/// The reading has an error.
+/// The fetch has an error.
 fn reading_fails(b: &mut NetBuilder) -> Result<u64, Memory>
     requires { bit_count ≤ b.old.vars }
     ensures extends { ExtendsNet b.old b.new }
@@ -117,7 +117,7 @@ fn reading_fails(b: &mut NetBuilder) -> Result<u64, Memory>
     b.not(fine)
 }
 
-/// f_stat is the status of the icode that is read, or of the error.
+/// f_stat is the status of the fetched icode, or of the fetch error.
 fn fetch_status_is(b: &mut NetBuilder, ctl: &Controls, icode: u64) -> Result<u64, Memory>
     requires inside { IsInside b.old ctl.now }
     requires ready { IsFrontReady b.old.vars ctl.now }
@@ -128,7 +128,7 @@ fn fetch_status_is(b: &mut NetBuilder, ctl: &Controls, icode: u64) -> Result<u64
     status_is(b, ctl, signal::F_STAT, error, icode)
 }
 
-/// What is asked by an icode and its row.
+/// What an icode and its row demand.
 fn front_asks(
     b: &mut NetBuilder,
     ctl: &Controls,
@@ -182,7 +182,7 @@ pub fn obligation_1(b: &mut NetBuilder, ctl: &Controls) -> Result<u64, Memory>
     b.and(code, fun)
 }
 
-/// What is asked by the icode that is fetched.
+/// What the fetched icode demands.
 pub fn fetch_rule_gate(
     b: &mut NetBuilder,
     ctl: &Controls,
@@ -197,7 +197,7 @@ pub fn fetch_rule_gate(
     by_icode(b, ctl, v, F_ICODE, &rule)
 }
 
-/// What is asked by the icode in D.
+/// What the icode in D demands.
 pub fn decode_rule_gate(
     b: &mut NetBuilder,
     ctl: &Controls,
@@ -212,7 +212,7 @@ pub fn decode_rule_gate(
     by_icode(b, ctl, v, D_ICODE, &rule)
 }
 
-/// Obligation 5: f_predPC is the PC that is predicted behind what is fetched without an error.
+/// Obligation 5: f_predPC is the predicted PC after an instruction that was fetched without an error.
 pub fn obligation_5(
     b: &mut NetBuilder,
     ctl: &Controls,

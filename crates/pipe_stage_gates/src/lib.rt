@@ -1,5 +1,5 @@
-//! Gates of obligations 1 to 22: what is asked of the signals of each stage (CS:APP 3e, sections 4.5.5 to 4.5.8), and that
-//! jumps carry their target.
+//! Gates of obligations 1 to 22: what is demanded of the signals of each stage (CS:APP 3e, sections 4.5.5 to 4.5.8),
+//! and that jumps carry their target.
 #![tactic(auto, using(nets::proofs::Truths::begins_more, nets::proofs::Truths::begins_self))]
 
 mod execute;

@@ -1,5 +1,5 @@
-//! What is asked of the memory and write-back stages: obligations 18 to 22. `good` is the gate that the stage holds a good
-//! instruction.
+//! The obligations on the memory and write-back stages, 18 to 22. `good` is the gate for "the stage holds a good
+//! instruction".
 #![tactic(auto, using(nets::proofs::Truths::begins_more, ctl_formula::proofs::Inside::inside_more, crate::proofs::Joined::ready_more), unfolding(pipe_fields::specs::Layout::fields_of))]
 
 ghost use Rattle.std.specs.Prelude.{◌<◌, ◌&&◌, ◌||◌, not, if◌then◌else◌, length, IfOk};
@@ -44,7 +44,7 @@ pub fn obligation_18(
     implies(b, good, told)
 }
 
-/// Obligation 19: a word is read, is written, by a good instruction that reads, that writes.
+/// Obligation 19: mem_read holds exactly for a good instruction that reads, mem_write for one that writes.
 pub fn obligation_19(
     b: &mut NetBuilder,
     ctl: &Controls,
@@ -66,7 +66,7 @@ pub fn obligation_19(
     b.and(reads, writes)
 }
 
-/// Obligation 20: m_stat tells the fault.
+/// Obligation 20: m_stat reports the fault.
 pub fn obligation_20(b: &mut NetBuilder, ctl: &Controls) -> Result<u64, Memory>
     requires inside { IsInside b.old ctl.now }
     requires ready { IsReady b.old.vars ctl.now }
@@ -86,7 +86,7 @@ pub fn obligation_20(b: &mut NetBuilder, ctl: &Controls) -> Result<u64, Memory>
     )
 }
 
-/// The values that are written are those of W.
+/// The values to write are those of W.
 fn values_written(b: &mut NetBuilder, ctl: &Controls) -> Result<u64, Memory>
     requires inside { IsInside b.old ctl.now }
     requires ready { IsReady b.old.vars ctl.now }
@@ -109,7 +109,7 @@ fn values_written(b: &mut NetBuilder, ctl: &Controls) -> Result<u64, Memory>
     b.and(val_e, val_m)
 }
 
-/// What is written is what W holds.
+/// The registers and values to write are those of W.
 fn registers_written(b: &mut NetBuilder, ctl: &Controls) -> Result<u64, Memory>
     requires inside { IsInside b.old ctl.now }
     requires ready { IsReady b.old.vars ctl.now }
@@ -137,7 +137,7 @@ pub fn obligation_21(b: &mut NetBuilder, ctl: &Controls, good: u64) -> Result<u6
     implies(b, good, told)
 }
 
-/// Obligation 22: Stat is the status of the good instruction in W, and 1 without one.
+/// Obligation 22: Stat is the status of the good instruction in W, and 1 if there is none.
 pub fn obligation_22(b: &mut NetBuilder, ctl: &Controls, good: u64) -> Result<u64, Memory>
     requires inside { IsInside b.old ctl.now }
     requires ready { IsReady b.old.vars ctl.now }

@@ -1,4 +1,4 @@
-//! What the row of an icode asks of one signal, as a gate.
+//! What the row of an icode demands of one signal, as a gate.
 ghost use Rattle.std.specs.Prelude.{◌||◌, not, IfOk};
 ghost use Rattle.nets.specs.Nets.{ExtendsNet};
 ghost use Rattle.ctl_formula.specs.Picks.{IsInside};
@@ -21,7 +21,7 @@ use pipe_gates::{RowTest, row_passes};
 use y86_base::Memory;
 use y86_isa::Row;
 
-/// What is asked by a row: the operands of the ALU in E, its function, the address in M.
+/// What a row demands: the operands of the ALU in E, its function, the address in M.
 #[derive(Clone, Copy, Debug, PartialEq, Eq)]
 pub enum RowRule {
     OperandA,
@@ -46,7 +46,7 @@ fn alu_function_is(b: &mut NetBuilder, ctl: &Controls, row: &Row) -> Result<u64,
     }
 }
 
-/// What the row asks.
+/// What the row demands.
 fn row_asks(b: &mut NetBuilder, ctl: &Controls, rule: RowRule, row: &Row) -> Result<u64, Memory>
     requires inside { IsInside b.old ctl.now }
     requires ready { IsReady b.old.vars ctl.now }

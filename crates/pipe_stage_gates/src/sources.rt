@@ -30,8 +30,8 @@ use pipe_gates::{RowTest, none_leaves, row_has};
 use pipe_motion::{FlowGates, Settings};
 use y86_base::{Memory, Variant};
 
-/// A word that takes the value of a source, and the leaf that it takes where no instruction in E, M or W writes the source.
-/// The gate `free` counts where that value isn't there yet: the good instruction in E loads it.
+/// A word that takes the value of a source, and the leaf that it takes if no instruction in E, M or W writes the
+/// source. The gate `free` counts if that value isn't known yet, because the good instruction in E is loading it.
 #[derive(Clone, Copy, Debug)]
 struct Operand {
     word: NameId,
@@ -40,7 +40,7 @@ struct Operand {
     free: u64,
 }
 
-/// The word takes the leaf where the source is the number of a field; elsewhere an older gate counts.
+/// The word takes the leaf if the source is the number of a field; otherwise an older gate counts.
 fn from_stage(
     b: &mut NetBuilder,
     ctl: &Controls,
@@ -119,7 +119,7 @@ fn takes_value(
     choose(b, in_e, taken, older)
 }
 
-/// The word takes the right value of a source; where the good instruction in E loads it, its `free` counts.
+/// The word takes the right value of a source; if the good instruction in E is loading it, `free` counts.
 fn takes_ready(
     b: &mut NetBuilder,
     ctl: &Controls,
@@ -145,7 +145,7 @@ fn takes_ready(
     choose(b, loaded, operand.free, right)
 }
 
-/// There is no source, or the word takes its right value, as far as it is there; where it isn't, its `free` counts.
+/// There is no source, or the word takes its right value; if that value isn't known yet, `free` counts.
 fn picks_right_value(
     b: &mut NetBuilder,
     ctl: &Controls,
@@ -169,7 +169,7 @@ fn picks_right_value(
     b.or(none, ready)
 }
 
-/// Where the instruction in D carries valP in the place of valA, d_valA is D_valP.
+/// If the instruction in D carries valP in the place of valA, d_valA is D_valP.
 fn takes_next_pc(b: &mut NetBuilder, ctl: &Controls, v: Variant) -> Result<u64, Memory>
     requires inside { IsInside b.old ctl.now }
     requires known { IsTrue (has_picks ctl.now names.d_valA) }
@@ -201,8 +201,8 @@ fn stores_late(b: &mut NetBuilder, v: Variant, late: bool) -> Result<u64, Memory
     }
 }
 
-/// Obligation 10: where a good instruction leaves D, d_valA is valP of a call and a jump, and else the right value of its
-/// source.
+/// Obligation 10: if a good instruction leaves D, d_valA is valP for a call and a jump, and otherwise the right value
+/// of its source.
 pub fn obligation_10(
     b: &mut NetBuilder,
     ctl: &Controls,
@@ -231,7 +231,7 @@ pub fn obligation_10(
     b.or(stays, both)
 }
 
-/// Obligation 11: where a good instruction leaves D, d_valB is the right value of its source.
+/// Obligation 11: if a good instruction leaves D, d_valB is the right value of its source.
 pub fn obligation_11(
     b: &mut NetBuilder,
     ctl: &Controls,

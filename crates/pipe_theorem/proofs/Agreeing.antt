@@ -1,4 +1,4 @@
--- In a real cycle each control value is worth the value of its name.
+-- In a real cycle the word of each control value is the value of its name.
 use Rattle.std.proofs.Common.{◌≡◌, ℕ, ◌+◌, ◌-◌, ◌<◌, ◌≤◌, inl, inr, Bool, true, false, not, ◌&&◌, ◌||◌, ◌==◌, nat_le, List, [], ◌∷◌, length, take, get_or, slice_get, Option, Some, None, refl, sym, ap, ◌∙◌, subst, arith}
 use Rattle.std.proofs.lemmas.Bool.{and_parts, cases_eq, cases_lt, eqb-true, leb-true, lt-ltb}
 use Rattle.std.proofs.lemmas.List.{get_or_append_left}
@@ -40,7 +40,7 @@ use Rattle.pipe_theorem.proofs.RealCycle.{f_line, fault_of, fields_at, hidden}
 some_none : {A : Type 0} (a : A) → Some a ≡ None → ⊥
 some_none a h = cc
 
--- ---- what a file defines stands behind the other rows, in table order
+-- ---- the rows that a file defines come after the other rows, in table order
 
 row_defined : Option Row → Bool
 row_defined None = false
@@ -135,7 +135,7 @@ constant_leaf field i x (Some r) h = by r.role h
     by (role.Hardware ids) h = cc
     by role.Defined h = cc
 
--- what holds of a number where it is the first, and else of a later one, holds of it
+-- a number has a property if the first number has it, and each later one
 by_number : (P : ℕ → Type 0) (n first : ℕ) → first ≤ n → P first → (first + 1 ≤ n → P n) → P n
 by_number P n first le here later = elim (cases_eq n first) [
   | inl e ↦ subst P (sym e) here
@@ -160,7 +160,7 @@ module _ (x : RunContext) (terms : List Term) (c : Schedule) (p : PipeState) (f 
   numbers : ℕ → ℕ
   numbers = number_of (fields_at x c p f (f_line x c f))
 
-  -- the leaf of a row that the file doesn't define is worth the value of its name, once those of its inputs are
+  -- for a row that the file doesn't define: the word of its leaf is the value of its name, if this holds for its inputs
   Step : ℕ → Type 0
   Step n = AllByRecursion (λ m. leaf_value f (cv m) ≡ f m) (inputs_at (slice_get pipe_rows n)) → leaf_value f (row_leaf numbers n (slice_get pipe_rows n) (Number 0)) ≡ f n
 

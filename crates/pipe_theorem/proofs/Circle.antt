@@ -1,4 +1,4 @@
--- What a good fetch brings, the bits that tell jumps back, and M's error bit, in a real cycle.
+-- What a good fetch brings, the back bits of jumps, and M's error bit, in a real cycle.
 use Rattle.std.proofs.Common.{◌≡◌, ℕ, Bool, true, false, not, ◌&&◌, ◌||◌, ◌==◌, List, refl, sym, ap, ◌∙◌}
 use Rattle.std.proofs.lemmas.Bool.{and_parts, and_from, or_right, and_left}
 use Rattle.y86_base.specs.Stat.{stat_number}
@@ -38,7 +38,7 @@ fault_needs true f h = refl
 fault_needs false true h = h refl
 fault_needs false false h = refl
 
--- how the line F and the cycle hang together
+-- how the line F and the cycle are related
 pub record FTies (x : RunContext) (f : ℕ → ℕ) (l : FetchLine) : Type 0 where
   pub icode : l.icode ≡ f name.imem_icode
   pub ifun : l.ifun ≡ f name.imem_ifun
@@ -95,7 +95,7 @@ error_is x t c p f rs image i b a me = by (is_good c.m) refl
         no_error p.mem (f name.mem_addr) _ _ (a.reads ∙ and_left _ _ m) (a.writes ∙ and_left _ _ m) in
         b.dmem_error ∙ ap bit (e ∙ sym (and_left _ _ m))
 
--- ---- comparisons of a jump's valC and valP tell its back bit
+-- ---- the comparison of a jump's valC and valP is its back bit
 same_is : (a b : Bool) → a ≡ b → agree a b ≡ true
 same_is true b e = sym e
 same_is false b e = ap not (sym e)

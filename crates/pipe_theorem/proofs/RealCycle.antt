@@ -1,4 +1,4 @@
--- The fields of a real cycle's valuation: as the registers have them, and the hidden bits as the run of instructions has them.
+-- The fields of a real cycle's valuation: visible ones from the registers, hidden ones from the run of instructions.
 use Rattle.std.proofs.Common.{ℕ, Bool, ◌&&◌}
 use Rattle.y86_isa.specs.Blocks.{condition}
 use Rattle.y86_isa.specs.RowTests.{accesses, next_is_branch}
@@ -30,7 +30,7 @@ fault_of x i = (work_at x.v x.image i).fault
 abbrev pub hidden : StageKind → Bool → ℕ
 hidden k b = bit (is_good k && b)
 
--- ---- what is fetched is real; its hidden bits are those of the next instruction, as far as the icode that was fetched allows
+-- ---- what is fetched is real; its hidden bits are those of the next instruction, as far as the fetched icode allows
 unfoldable pub f_line : RunContext → Schedule → (ℕ → ℕ) → FetchLine
 f_line x c f = record {
   error = f name.imem_error;

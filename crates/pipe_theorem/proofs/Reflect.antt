@@ -68,7 +68,7 @@ pub worth_if : (f : ℕ → ℕ) (b : Bool) (l m : Leaf) → leaf_value f (cond 
 worth_if f true l m = refl
 worth_if f false l m = refl
 
--- obligation i asks this of a cycle whose words ask the registers to move so
+-- obligation i demands this of a cycle with these stall and bubble signals
 abbrev pub Asks : RunContext → Schedule → PipeState → (ℕ → ℕ) → FetchLine → RegisterControls → (ℕ → Leaf) → ℕ → Type 0
 Asks x c p f l mv cv i = demand i x.v x.s (fields_at x c p f l) (run_flow x c) mv (real_assignment f) cv ≡ true
 
@@ -198,7 +198,7 @@ module _ (x : RunContext) (c : Schedule) (p : PipeState) (f : ℕ → ℕ) (l : 
         (Name name.e_valE) (Name name.m_valM) (Name name.M_valE) (Name name.W_valM) (Name name.W_valE) (Name rest)) in
         r ∙ rw (st.M_valE, st.W_valM, st.W_valE) refl
 
-    -- the right value is asked for, or the source is loaded in E
+    -- the right value is demanded, or E loads the source
     right_asked : (free : Bool) (word source k rest : ℕ) → cv source ≡ Number k → k ≢ 15 →
         picks_right_value x.v x.s (fields_at x c p f l) (run_flow x c) (requested_controls f) (real_assignment f) cv free word source rest ≡ true →
         cond (is_good c.e && (k == p.e.dst_m)) free (picks_leaf cv word (right_leaf x.v x.s (fields_at x c p f l) (run_flow x c) (requested_controls f) (real_assignment f) cv source rest)) ≡ true
@@ -315,7 +315,7 @@ module _ (x : RunContext) (c : Schedule) (p : PipeState) (f : ℕ → ℕ) (l : 
     unfolding fields_at run_flow
     a17 n = unless (is_wrong c.e) _ (q 17 (omega arith) (omega arith)) n
 
-    -- with the settings' own clause
+    -- with the clause of the setting tv
     pub execute_facts : (x.s.tv ≡ true → target_in_alu x.v x.s (fields_at x c p f l) (run_flow x c) (requested_controls f) (real_assignment f) cv ≡ true) → ExecuteFacts x.v x.s p f c
     unfolding fields_at run_flow
     execute_facts alu_passes_target =

@@ -103,7 +103,7 @@ module _ (x : RunContext) (terms : List Term) (ids : List ℕ) (atoms : List Ato
     ranges : InRange (the_fields x c p f)
     ranges = in_range x t c p f rs image i b
 
-    -- what is asked: always, or where the cycle isn't stopping
+    -- what is demanded: always, or if the cycle isn't stopping
     asked_if : (j : ℕ) → 1 ≤ j → j ≤ rule_count → (is_always_demanded j || not (is_stopping (the_fields x c p f))) ≡ true → demand_at x.v x.s j (the_fields x c p f) (real_assignment f) cv ≡ true
     unfolding is_demanded
     asked_if j ge le h =

@@ -1,4 +1,4 @@
--- The refinement theorem: a file for PIPE whose obligations hold computes what the instructions compute.
+-- The refinement theorem: a file for PIPE that meets the obligations computes what the instructions compute.
 use Rattle.std.specs.Prelude.{ℕ, List}
 use Rattle.y86_base.specs.declared.parts.Variant.{Variant}
 use Rattle.y86_isa.specs.Run.{IsImage}
@@ -11,14 +11,14 @@ use Rattle.pipe_motion.specs.declared.settings.Settings.{Settings}
 use Rattle.pipe_obligations.specs.FileSettings.{Holds, PipeControls}
 use Rattle.pipe_refinement.specs.Refines.{Refines}
 
--- every obligation holds of the design at the settings, in every valuation in which its control values solve their equations; and
--- a jump carries its target where the settings say so
+-- the design meets every obligation at the settings, in every valuation in which its control values solve their
+-- equations; and a jump carries its target if the settings say so
 abbrev pub MeetsObligations : Variant → List Term → List Atom → Settings → Type 0
 MeetsObligations v terms atoms s = Holds v atoms (PipeControls terms) s
 
--- For every instruction set, design, settings, image and number of cycles: a design that is bound, has an order and meets the
--- obligations refines the run of instructions, where none of the first instructions fetches a byte that one of the three before it
--- stored.
+-- For every instruction set, design, settings, image and number of cycles: a design that is bound, has an order and
+-- meets the obligations refines the run of instructions, provided that none of the first instructions fetches a byte
+-- that one of the three before it stored.
 abbrev pub ObligationsRefine : Type 0
 ObligationsRefine =
     (v : Variant) (terms : List Term) (ids : List ℕ) (atoms : List Atom) (s : Settings) (image : List ℕ) (k : ℕ) →

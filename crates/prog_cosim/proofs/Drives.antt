@@ -21,7 +21,7 @@ use Rattle.prog_cosim.specs.RunsTo.{RunsFor, RunsTo}
 
 -- ---- a drive is a run
 
--- the machine of the definition that a machine and its records stand for
+-- the machine of the definition that a machine and its records represent
 abbrev pub machine : pipe.PipeMachine → List Rec → run.PipeHistory
 machine p records = record { state = p.state; records = records; end = p.end }
 

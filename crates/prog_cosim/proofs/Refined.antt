@@ -20,7 +20,7 @@ use Rattle.prog_cosim.specs.declared.both.CosimResult.{CosimResult}
 
 -- ---- a run of instructions that has stopped
 
--- the run of a program that has stopped behind so many records
+-- the run of a program that has stopped after `count` records
 stops_off : (v : Variant) (image : List ℕ) (count : ℕ) → StopsIn v image count → is_aok (run v image count).stat ≡ false
 stops_off v image count h = is_aok-from_not (run v image count).stat h.stopped
 
@@ -41,7 +41,7 @@ few v image count k h =
       | inr le ↦ omega (arith, records_behind v image count k h le)
     ]
 
--- where it has stopped behind as many instructions as it has records, these are all
+-- if it has stopped after as many instructions as it has records, these are all
 all_of_them : (v : Variant) (image : List ℕ) (count r : ℕ) → StopsIn v image count → r ≡ length (records v image r) → is_aok (run v image r).stat ≡ false → r ≡ count
 all_of_them v image count r h whole off =
     elim (cases_lt r count) [
@@ -76,7 +76,7 @@ off_stopped Ins h p = refl
 off_stopped Pip h p = absurd (p refl)
 off_stopped Bad h p = refl
 
--- a design that refines the run of instructions on an image, whose run has stopped behind so many records
+-- a design that refines the run of instructions on an image, whose run has stopped after `count` records
 record Refined (v : Variant) (terms : List Term) (image : List ℕ) (count : ℕ) : Type 0 where
   refines : (k : ℕ) → Refines v terms image k
   halts : StopsIn v image count

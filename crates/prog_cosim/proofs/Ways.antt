@@ -36,7 +36,7 @@ halted_is : (a b c d : Stat) (halted : Bool) → a ≡ b → c ≡ d → ((halte
 halted_is a b c d halted e f t =
     subst (λ (x : Stat). (halted ≡ true) ↔ ((x ≡ Hlt) × (d ≡ Hlt))) e (subst (λ (x : Stat). (halted ≡ true) ↔ ((a ≡ Hlt) × (x ≡ Hlt))) f t)
 
--- the run of instructions: the machine before and behind it, and what is told of it
+-- the run of instructions: the machine before and after it, and its number of steps
 pub record RanOne (v : Variant) (image : List ℕ) (limit : ℕ) (last : Machine) (steps : ℕ) : Type 0 where
   pub counted : steps ≡ length (records_from v (start image) limit)
   pub machine : last ≡ run_from v (start image) limit

@@ -10,12 +10,13 @@ use Rattle.prog_gen.specs.Programs.{program}
 use Rattle.prog_cosim.specs.RunsTo.{RunsTo, end_of}
 use Rattle.prog_cosim.specs.declared.both.CosimResult as code
 
--- the most instructions of the one run, and the most cycles of the other
+-- the most instructions of one run, and the most cycles of the other
 abbrev pub run_limit : ℕ → ℕ
 run_limit n = 10 * n + 100
 
--- program n run by the instructions and on PIPE under a design, each up to the limit: how many instructions and cycles were done;
--- whether both reports, with the instructions and the retired records as their steps, are the same bytes; whether both runs ended with HLT
+-- program n run by the instructions and on PIPE under a design, each up to the limit: the numbers of instructions and
+-- of cycles; whether both reports, with the instructions and the retired records as their steps, are the same bytes;
+-- whether both runs ended with HLT
 pub record IsCosimulation (v : Variant) (terms : List Term) (n : ℕ) (b : code.CosimResult) : Type 0 where
   pub end : PipeHistory
   pub runs : RunsTo v terms (program n) (run_limit n) b.cycles end
@@ -24,7 +25,7 @@ pub record IsCosimulation (v : Variant) (terms : List Term) (n : ℕ) (b : code.
       ↔ (report (program n) (run v (program n) (run_limit n)) b.steps ≡ report (program n) (end_of end) (length end.records))
   pub halted : (b.halted ≡ true) ↔ (((run v (program n) (run_limit n)).stat ≡ Hlt) × (end.end ≡ Hlt))
 
--- both runs did the whole program: n instructions and the halt, in at most 5 (n + 1) cycles, to the same report
+-- both runs executed the whole program: n instructions and the halt, in at most 5 (n + 1) cycles, with the same report
 pub record CosimulationAgrees (n : ℕ) (b : code.CosimResult) : Type 0 where
   pub steps : b.steps ≡ n + 1
   pub cycles : b.cycles ≤ 5 * (n + 1)

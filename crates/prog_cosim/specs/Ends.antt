@@ -6,12 +6,13 @@ use Rattle.y86_isa.specs.Run.{run, records}
 use Rattle.dp_signals.specs.PipeRun.{PipeHistory}
 use Rattle.prog_cosim.specs.RunsTo.{end_of}
 
--- the run of instructions of an image has so many instructions, and has stopped behind them
+-- the run of instructions of an image has `count` instructions, and has stopped after them
 pub record StopsIn (v : Variant) (image : List ℕ) (count : ℕ) : Type 0 where
   pub records : length (records v image count) ≡ count
   pub stopped : (run v image count).stat ≢ Aok
 
--- a machine of PIPE after so many cycles has retired these instructions and holds what they left, in at most five cycles for each
+-- a machine of PIPE after `cycles` cycles has retired these instructions and holds what they left, in at most five
+-- cycles for each
 pub record EndsAs (v : Variant) (image : List ℕ) (count cycles : ℕ) (p : PipeHistory) : Type 0 where
   pub in_time : cycles ≤ 5 * count
   pub retired : p.records ≡ records v image count

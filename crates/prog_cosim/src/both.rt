@@ -17,12 +17,12 @@ use y86_base::{Memory, Stat, Variant};
 use y86_isa::Machine;
 use yis_run::{End, run};
 
-/// What the two runs of a generated program came to.
+/// The outcome of the two runs of a generated program.
 #[derive(Clone, Copy, Debug, PartialEq, Eq)]
 pub struct CosimResult {
-    /// How many instructions the run of instructions did.
+    /// How many instructions the run of instructions executed.
     pub steps: u64,
-    /// How many cycles the pipeline did.
+    /// How many cycles the pipeline ran.
     pub cycles: u64,
     /// Whether both reports are the same bytes.
     pub same: bool,
@@ -30,16 +30,16 @@ pub struct CosimResult {
     pub halted: bool,
 }
 
-/// Whether two runs both ended at a halt.
+/// Whether two runs both ended with a halt.
 fn are_halts(one: Stat, other: Stat) -> bool
     ensures { (result ≡ true) ↔ ((one ≡ Stat.Hlt) × (other ≡ Stat.Hlt)) }
 {
     matches!(one, Stat::Hlt) && matches!(other, Stat::Hlt)
 }
 
-/// Runs program `n` by the instructions and on PIPE under a design, each for at most 10n + 100 steps or cycles, and compares the
-/// reports, with the instructions and the retired records as their steps. All memory of the runs is taken before the first step;
-/// that of the reports behind the last.
+/// Runs program `n` by the instructions and on PIPE under a design, each for at most 10n + 100 steps or cycles, and
+/// compares the reports. Their steps are the instructions and the retired records. All memory of the runs is
+/// allocated before the first step, that of the reports after the last.
 pub fn cosimulate(
     alloc: Global,
     variant: Variant,

@@ -7,12 +7,12 @@ use wb_io::MemSink;
 use y86_base::{Image, Memory};
 use yis_run::{End, report};
 
-/// The most bytes that the report has for a word of memory that changed, and for everything else.
+/// The most bytes that a report needs for a changed word of memory, and for everything else.
 const WORD_LINE: u64 = 48;
 
 const OTHER_LINES: u64 = 2048;
 
-/// The report of a run that began on the memory `first`, in memory.
+/// The report of a run that began with the memory `first`, in memory.
 fn report_text(alloc: Global, first: &Image, end: &End<'_>, steps: u64) -> Result<MemSink, Memory>
     requires one_size { length first.now ≡ length end.now.mem.now }
     ensures { IfOk result (λ sink. sink.taken ≡ text.report first.now (text.ended end.now) steps) }
@@ -29,7 +29,8 @@ fn report_text(alloc: Global, first: &Image, end: &End<'_>, steps: u64) -> Resul
     }
 }
 
-/// Whether the reports of two runs that began on the memory `first` are the same bytes, each with its own count of steps.
+/// Whether the reports of two runs that began with the memory `first` are the same bytes, each with its own count of
+/// steps.
 pub fn same_reports(
     alloc: Global,
     first: &Image,

@@ -1,4 +1,4 @@
--- The bits of fields one behind the other.
+-- The bits of fields that follow one another.
 use Rattle.std.proofs.Common.{◌≡◌, ℕ, zero, suc, ◌+◌, ◌-◌, ◌/◌, ◌%◌, ◌<◌, ◌≤◌, Bool, true, ◌==◌, nat_le, List, [], ◌∷◌, ◌++◌, length, take, drop, set, get_or, refl, sym, ap, ◌∙◌, arith, add-one, add-zero, append_assoc, append-nil, length-append, None}
 use Rattle.std.specs.List.{list_all}
 use Rattle.std.proofs.lemmas.List.{take-set-le, drop-set, take-append-drop, take_more_set, take_all, take-append-le, drop-append-le, drop_all, drop-drop, take-set, get_or-set_same, length-set, length-take, length_push}
@@ -31,7 +31,7 @@ pub field_none : (out : List Bool) (first n : ℕ) → with_field out first 0 n 
 unfolding spell
 field_none out first n = ap (λ (m : ℕ). take first out ++ drop m out) (add-zero first) ∙ take-append-drop first out
 
--- what a table of fields has
+-- the field at a place past the table
 any_spot : FieldSpec
 any_spot = record { bits = 0; name = None }
 
@@ -125,7 +125,7 @@ bits_more out ss xs j first k n hs hx is room told =
     ∙ (ap (λ (m : ℕ). pattern (take j ss) (take j (set xs j n)) [] ++ spell (get_or ss j (record { bits = 0; name = None })).bits m) (sym (get_or-set_same xs j n 0 hx))
     ∙ sym (pattern_more ss (set xs j n) j (record { bits = 0; name = None }) hs (omega (arith, hx, length-set xs j n))))))))
 
--- what stands behind a field stays
+-- the bits after a field stay
 pub field_behind : (out : List Bool) (first k n m : ℕ) → first + k ≤ m → first + k ≤ length out → drop m (with_field out first k n) ≡ drop m out
 field_behind out first k n m h room =
     let front : List Bool = take first out ++ spell k n in
@@ -163,7 +163,7 @@ length_drawn v (suc k) before word =
     let n : ℕ = chosen (choices v before) (lcg_output (lcg_next word)) in
     omega (arith, length_drawn v k (before ++ n ∷ []) (lcg_next word), length_push before n)
 
--- the fields are drawn, and truths behind them
+-- the fields are drawn, and truths after them
 pub drawn_whole : (v : Variant) (word after atoms : ℕ) (fields old out : List Bool) → fields ≡ pattern field_specs (numbers_drawn v field_count [] word) [] ++ drop bit_count old
     → after ≡ word_behind field_count word → out ≡ take bit_count fields ++ truths_drawn atoms after → out ≡ valuation_from v atoms word
 unfolding valuation_from

@@ -1,4 +1,4 @@
--- Bytes that are laid into an image of zeros, one instruction after another.
+-- Bytes are put into an image of zeros, one instruction after another.
 use Rattle.std.proofs.Common.{◌≡◌, ℕ, suc, ◌+◌, ◌-◌, ◌<◌, ◌≤◌, List, ◌++◌, length, take, drop, set, get_or, replicate, sym, ap, ◌∙◌, arith, append_assoc, append-nil, length-append, length-drop}
 use Rattle.std.proofs.Math.Seq.{sets}
 use Rattle.std.proofs.lemmas.List.{at_drop_more, take-append-le, take_all, drop-append-le, take-append-drop, length-take, drop_all, drop-drop, drop-replicate, length-replicate}
@@ -22,7 +22,7 @@ sets_end m at i bytes h = ap (sets m (at + i)) (drop_all i bytes h)
 pub sets_start : (m : List ℕ) (at : ℕ) (bytes : List ℕ) → at + length bytes ≤ length m → sets m at bytes ≡ with_bytes m at bytes
 sets_start m at bytes h = sets-eq bytes m at h ∙ append_assoc (take at m) bytes (drop (at + length bytes) m)
 
--- an image of which only the first bytes are laid
+-- an image with its first bytes put, and zeros after them
 pub record IsLaid (size at : ℕ) (image : List ℕ) : Type 0 where
   pub size_is : length image ≡ size
   pub zeros : drop at image ≡ replicate (size - at) 0
@@ -30,7 +30,7 @@ pub record IsLaid (size at : ℕ) (image : List ℕ) : Type 0 where
 pub laid_none : (size : ℕ) (image : List ℕ) → image ≡ replicate size 0 → IsLaid size 0 image
 laid_none size image e = record { size_is = ap length e ∙ length-replicate size 0; zeros = e ∙ ap (λ (n : ℕ). replicate n 0) (omega arith) }
 
--- more is laid behind them
+-- more bytes are put after them
 pub laid_take : (m : List ℕ) (at : ℕ) (bytes : List ℕ) → at + length bytes ≤ length m → take (at + length bytes) (with_bytes m at bytes) ≡ take at m ++ bytes
 laid_take m at bytes h =
     let front : List ℕ = take at m ++ bytes in

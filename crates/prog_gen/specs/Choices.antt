@@ -1,4 +1,4 @@
--- Drawn control valuations of PIPE: field by field, each number one of those that may stand there behind the earlier ones.
+-- Drawn control valuations of PIPE: field by field, each number one of those that may follow the earlier ones.
 use Rattle.std.specs.Prelude.{ℕ, zero, suc, ◌+◌, ◌-◌, ◌%◌, ◌^◌, ◌≡◌, ◌<◌, Bool, true, false, not, ◌&&◌, ◌||◌, ◌==◌, nat_lt, nat_le, if◌then◌else◌, List, [], ◌∷◌, ◌++◌, length, take, drop, get_or, slice_get, unwrap_or, None, filter}
 use Rattle.std.specs.List.{range_with_len}
 use Rattle.y86_base.specs.declared.parts.Variant.{Variant}
@@ -13,7 +13,8 @@ use Rattle.pipe_fields.specs.Allowed.{is_good_aok}
 use Rattle.net_fields.specs.FieldSpecs as table
 use Rattle.prog_gen.specs.Draws.{lcg_next, lcg_output}
 
--- ---- what may stand in a field of a line, by its place in the line and the row of the line's icode; the fields behind it don't count
+-- ---- what a field of a line may be, by its place in the line and the row of the line's icode; later fields don't
+-- count
 
 abbrev pub fetch_choice_allowed : ℕ → Row → FetchLine → ℕ → ℕ → Bool
 fetch_choice_allowed count r x i n =
@@ -24,7 +25,7 @@ fetch_choice_allowed count r x i n =
     else (if i == 4 then zero_unless (accesses r.memory) n
     else zero_unless (next_is_branch r.next) n))))
 
--- status, icode and ifun of what a stage holds; the icode may be one that has an error at memory where a row that accesses it is asked for
+-- status, icode and ifun of what a stage holds; `faulted` allows an icode that may have an error at memory
 abbrev pub stat_choice_allowed : ℕ → ℕ → Bool
 stat_choice_allowed kind n = if kind == bubble then n == 0 else nat_le 1 n && nat_le n 4
 
@@ -58,7 +59,7 @@ execute_choice_allowed count r x i n =
     else (if i == 8 then zero_unless (is_good_aok x.kind x.stat && accesses r.memory) n
     else zero_unless (is_good_aok x.kind x.stat && next_is_branch r.next) n))))))))
 
--- in M a move's destination may be lost where its condition can fail, and then the condition has failed
+-- in M a conditional move may have lost its destination if its condition can fail; then the condition has failed
 abbrev pub memory_choice_allowed : ℕ → Row → MemoryLine → ℕ → ℕ → Bool
 memory_choice_allowed count r x i n =
     if i == 0 then stat_choice_allowed x.kind n
@@ -88,40 +89,40 @@ choice_allowed v j c n =
     else (if nat_lt j w_first then memory_choice_allowed (length (rows v)) (row v c.m.icode) c.m (j - m_first) n
     else write_choice_allowed (length (rows v)) (row v c.w.icode) (accesses (row v n).memory) c.w (j - w_first) n)))))
 
--- how many bits the field at a place has
+-- the number of bits of the field at a place
 abbrev pub width : ℕ → ℕ
 width j = (get_or field_specs j (record { bits = 0; name = None })).bits
 
--- the numbers that may stand behind others, in rising order
+-- the numbers that may follow others, in rising order
 abbrev pub choices : Variant → List ℕ → List ℕ
 choices v before = filter (choice_allowed v (length before) (fields_by before)) (range_with_len 0 (2 ^ width (length before)))
 
--- the one at a position modulo how many there are; 0 where there is none (`law_of_draws`: there is one)
+-- the one at a position modulo how many there are; 0 if there is none (`law_of_draws`: there is one)
 abbrev pub chosen : List ℕ → ℕ → ℕ
 chosen some position = unwrap_or (slice_get some (position % length some)) 0
 
--- bits with those of a number in the place of some
+-- bits with those of a number in the place of others
 abbrev pub with_field : List Bool → ℕ → ℕ → ℕ → List Bool
 with_field out first bits n = take first out ++ (spell bits n ++ drop (first + bits) out)
 
 -- ---- a drawn valuation
 
--- so many more fields are drawn behind these numbers
+-- the given number of fields is drawn after these numbers
 unfoldable pub numbers_drawn : Variant → ℕ → List ℕ → ℕ → List ℕ
 numbers_drawn v zero before word = before
 numbers_drawn v (suc k) before word = numbers_drawn v k (before ++ chosen (choices v before) (lcg_output (lcg_next word)) ∷ []) (lcg_next word)
 
--- the word behind so many draws
+-- the word after the given number of draws
 unfoldable pub word_behind : ℕ → ℕ → ℕ
 word_behind zero word = word
 word_behind (suc k) word = word_behind k (lcg_next word)
 
--- so many truths are drawn
+-- the given number of truths is drawn
 unfoldable pub truths_drawn : ℕ → ℕ → List Bool
 truths_drawn zero word = []
 truths_drawn (suc k) word = (lcg_output (lcg_next word) % 2 == 1) ∷ truths_drawn k (lcg_next word)
 
--- the bits of the valuation that a generator at a word draws, with so many atoms
+-- the bits of the valuation that a generator with this word draws, for the given number of atoms
 unfoldable pub valuation_from : Variant → ℕ → ℕ → List Bool
 valuation_from v atoms word = table.pattern field_specs (numbers_drawn v field_count [] word) (truths_drawn atoms (word_behind field_count word))
 
@@ -129,6 +130,6 @@ valuation_from v atoms word = table.pattern field_specs (numbers_drawn v field_c
 abbrev pub valuation : Variant → ℕ → ℕ → ℕ → List Bool
 valuation v atoms seed i = valuation_from v atoms ((seed + i) % 2 ^ 64)
 
--- each number is one that may stand behind those before it
+-- each number is one that may follow those before it
 abbrev pub AreChosen : Variant → List ℕ → Type 0
 AreChosen v xs = (j : ℕ) → j < length xs → choice_allowed v j (fields_by (take j xs)) (get_or xs j 0) ≡ true

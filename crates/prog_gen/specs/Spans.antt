@@ -1,4 +1,4 @@
--- Numbers of four bits that are those from one on to another.
+-- Spans: consecutive numbers of four bits.
 use Rattle.std.specs.Prelude.{ℕ, ◌≡◌, ◌<◌, Bool, ◌&&◌, nat_le, nat_lt}
 use Rattle.prog_gen.specs.declared.spans.Span.{Span}
 

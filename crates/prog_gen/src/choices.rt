@@ -1,4 +1,4 @@
-//! Which numbers may stand in a field of a control valuation of PIPE behind those before it.
+//! Which numbers a field of a control valuation of PIPE may have, given the numbers of the fields before it.
 ghost use Rattle.std.specs.Prelude.{◌≡◌, ◌<◌, ◌≤◌, ◌^◌, ◌+◌, length, get_or};
 ghost use Rattle.prog_gen.specs.Choices as spec;
 ghost use Rattle.net_fields.specs.AllowedNumbers as fit;
@@ -142,7 +142,7 @@ pub(crate) fn at(before: &[u64], k: usize) -> u64
     before.get(k).copied().unwrap_or(0)
 }
 
-/// In the line F.
+/// Whether field `i` of line F may be `n`.
 fn fetch_choice_allowed(v: Variant, before: &[u64], i: usize, n: u64) -> bool
     ensures { result ≡ spec.fetch_choice_allowed (length (rows v)) (table.row v (fields_by before.now).f.icode) (fields_by before.now).f i n }
 {
@@ -166,7 +166,7 @@ fn fetch_choice_allowed(v: Variant, before: &[u64], i: usize, n: u64) -> bool
     }
 }
 
-/// In the line D.
+/// Whether field `i` of line D may be `n`.
 fn decode_choice_allowed(v: Variant, before: &[u64], i: usize, n: u64) -> bool
     ensures { result ≡ spec.decode_choice_allowed (length (rows v)) (table.row v (fields_by before.now).d.icode) (fields_by before.now).d i n }
 {
@@ -188,7 +188,7 @@ fn decode_choice_allowed(v: Variant, before: &[u64], i: usize, n: u64) -> bool
     }
 }
 
-/// In the line E.
+/// Whether field `i` of line E may be `n`.
 fn execute_choice_allowed(v: Variant, before: &[u64], i: usize, n: u64) -> bool
     ensures { result ≡ spec.execute_choice_allowed (length (rows v)) (table.row v (fields_by before.now).e.icode) (fields_by before.now).e i n }
 {
@@ -213,7 +213,7 @@ fn execute_choice_allowed(v: Variant, before: &[u64], i: usize, n: u64) -> bool
     }
 }
 
-/// In the line M.
+/// Whether field `i` of line M may be `n`.
 fn memory_choice_allowed(v: Variant, before: &[u64], i: usize, n: u64) -> bool
     ensures { result ≡ spec.memory_choice_allowed (length (rows v)) (table.row v (fields_by before.now).m.icode) (fields_by before.now).m i n }
 {
@@ -242,7 +242,7 @@ fn memory_choice_allowed(v: Variant, before: &[u64], i: usize, n: u64) -> bool
     }
 }
 
-/// In the line W.
+/// Whether field `i` of line W may be `n`.
 fn write_choice_allowed(v: Variant, before: &[u64], i: usize, n: u64) -> bool
     ensures { result ≡ spec.write_choice_allowed (length (rows v)) (table.row v (fields_by before.now).w.icode) (tests.accesses (table.row v n).memory) (fields_by before.now).w i n }
 {
@@ -258,7 +258,7 @@ fn write_choice_allowed(v: Variant, before: &[u64], i: usize, n: u64) -> bool
     }
 }
 
-/// Whether a number may stand at a place in the order of the variables.
+/// Whether the field after those of `before`, in the order of the variables, may be `n`.
 #[tactic(auto, unfolding(crate::specs::Choices::choice_allowed))]
 fn choice_allowed(v: Variant, before: &[u64], n: u64) -> bool
     requires { length before.now < field_count }
@@ -282,7 +282,7 @@ fn choice_allowed(v: Variant, before: &[u64], n: u64) -> bool
     }
 }
 
-/// The numbers of so many bits that may stand behind others, in rising order.
+/// The numbers of `bits` bits that may follow those of `before`, in rising order.
 fn choices(v: Variant, before: &[u64], bits: u32) -> ArrayVec<u64, 16>
     requires place { length before.now < field_count }
     requires bits { bits ≡ spec.width (length before.now) }
@@ -299,7 +299,7 @@ fn choices(v: Variant, before: &[u64], bits: u32) -> ArrayVec<u64, 16>
     some
 }
 
-/// The number at a position modulo how many there are; 0 where there is none.
+/// The number at a position, modulo the length of the list; 0 if the list is empty.
 fn chosen(some: &[u64], position: u64) -> u64
     ensures { result ≡ spec.chosen some.now position }
 {
@@ -310,7 +310,7 @@ fn chosen(some: &[u64], position: u64) -> u64
     some[(position % count) as usize]
 }
 
-/// The number that may stand behind others, at a position modulo how many there are.
+/// The number at a position among those that may follow `before`, modulo how many there are.
 pub fn choice(v: Variant, before: &[u64], bits: u32, position: u64) -> u64
     requires place { length before.now < field_count }
     requires bits { bits ≡ spec.width (length before.now) }

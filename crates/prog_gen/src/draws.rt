@@ -4,7 +4,7 @@ ghost use Rattle.prog_gen.specs.Draws.{lcg_next, lcg_output};
 
 use std::marker::Model;
 
-/// A generator: Knuth's linear congruential one of 64 bits (MMIX), of whose word a draw gives the upper 31 bits.
+/// A generator: Knuth's linear congruential one of 64 bits (MMIX). A draw returns the upper 31 bits of its new word.
 #[derive(Debug, Drop)]
 pub struct Draws {
     word: u64,
@@ -19,7 +19,7 @@ impl Model for Draws {
 }
 
 impl Draws {
-    /// A generator that starts at a word.
+    /// A generator that starts with this word.
     pub fn from(word: u64) -> Draws
         ensures { result ≡ word }
     {

@@ -1,4 +1,4 @@
-//! Program `n`: instructions that are drawn from `n`, a halt, and a data area.
+//! Program `n`: instructions drawn with seed `n`, a halt, and a data area.
 ghost use Rattle.std.specs.Prelude.{◌≡◌, ◌<◌, ◌≤◌, ◌+◌, ◌*◌, IfOk, length};
 ghost use Rattle.y86_base.specs.Image.{with_bytes};
 ghost use Rattle.y86_isa.specs.Encoding.{IsValid, widest};
@@ -12,10 +12,10 @@ use y86_isa::{Instr, encode};
 
 const NO_REGISTER: u8 = 15;
 
-/// %r14, which no instruction of a program writes: it is 0, and an address from it is the constant itself.
+/// %r14, which no instruction of a program writes. It is 0, so that an address from it is the constant itself.
 const ZERO: u8 = 14;
 
-/// An instruction of these fields.
+/// An instruction with these fields.
 fn instruction(icode: u8, ifun: u8, r_a: u8, r_b: u8, val_c: u64) -> Instr
     ensures { result ≡ record { icode = icode; ifun = ifun; r_a = r_a; r_b = r_b; val_c = val_c } }
 {
@@ -46,7 +46,8 @@ fn draw_address(draws: &mut Draws, data_at: u64) -> u64
     data_at + 8 * (draws.draw() % 256)
 }
 
-/// The next instruction of a program, at an address: its kind is drawn first, then its fields in the order in which they are written.
+/// The next instruction of a program, at an address. Its kind is drawn first, then its fields in the order in which
+/// they are written.
 #[tactic(auto, using(crate::proofs::Valid::irmovq_valid, crate::proofs::Valid::opq_valid, crate::proofs::Valid::rrmovq_valid, crate::proofs::Valid::rmmovq_valid, crate::proofs::Valid::mrmovq_valid, crate::proofs::Valid::jxx_valid), unfolding(crate::specs::Programs::next_drawn))]
 fn draw_instruction(draws: &mut Draws, data_at: u64, at: u64) -> Instr
     requires data { data_at < 2000000 }
@@ -97,8 +98,9 @@ fn put_bytes(image: &mut Image, at: u64, bytes: &[u8])
     }
 }
 
-/// The image of program `n`: `n` instructions that are drawn from `n` on, zeros behind them, of which the first is a halt, and 2048
-/// bytes of data from the first multiple of 8 from 10n + 8 on. Its 1,002,056 bytes at most are taken before the first draw.
+/// The image of program `n`: `n` instructions drawn with seed `n`; zeros, the first of which is a halt; and 2048
+/// bytes of data, from the first multiple of 8 from 10n + 8 on. Its memory, 1,002,056 bytes at most, is allocated
+/// before the first draw.
 pub fn program(alloc: Global, n: u64) -> Result<Image, Memory>
     requires least { 1 ≤ n }
     requires most { n ≤ 100000 }

@@ -1,4 +1,4 @@
-//! Spans of numbers: at most places of a valuation, those that may stand there are the numbers from one on to another.
+//! Spans of numbers: the numbers that most fields of a valuation may have are consecutive.
 ghost use Rattle.std.specs.Prelude.{◌≡◌, ◌<◌, ◌≤◌, ◌^◌, ◌&&◌, ◌||◌, ◌==◌, not, nat_le, nat_lt, ℕ, Bool, true, false, length, IfSome};
 ghost use Rattle.std.specs.List.{filter, range_with_len};
 ghost use Rattle.net_fields.specs.AllowedNumbers as fit;
@@ -15,7 +15,7 @@ use pipe_fields::{D_FIRST, E_FIRST, F_FIRST, M_FIRST, W_FIRST};
 use y86_base::Variant;
 use y86_isa::{RegisterColumn, Row, accesses, icode_count, next_is_branch, row};
 
-/// The numbers from a first one on, below an end.
+/// The numbers from `first` on, below `end`.
 #[derive(Clone, Copy, Debug)]
 pub(crate) struct Span {
     first: u64,
@@ -23,7 +23,7 @@ pub(crate) struct Span {
 }
 
 impl Span {
-    /// The number of so many bits at a position modulo how many such numbers the span has; 0 where it has none.
+    /// The number at a position among the span's numbers of `bits` bits, modulo how many there are; 0 if there is none.
     pub(crate) fn chosen(self, bits: u32, position: u64) -> u64
         requires { bits ≤ 4 }
         ensures { (may : ℕ → Bool) → IsSpanOf self may → result ≡ spec.chosen (filter may (range_with_len 0 (2 ^ bits))) position }
@@ -37,7 +37,7 @@ impl Span {
     }
 }
 
-/// All numbers that a field has.
+/// All numbers of a field.
 fn any() -> Span
     ensures { IsSpanOf result (λ n. true) }
 {
@@ -62,7 +62,7 @@ fn below(end: u64) -> Span
     Span { first: 0, end }
 }
 
-/// The numbers up to one.
+/// The numbers up to `last`.
 fn upto(last: u64) -> Span
     ensures { IsSpanOf result (λ n. nat_le n last) }
 {
@@ -133,7 +133,7 @@ fn stat(kind: u64) -> Span
     }
 }
 
-/// The icodes of a status, where an error at memory leaves none.
+/// The icodes that go with a status, if there was no error at memory.
 fn icode_of(count: u64, stat: u64) -> Span
     ensures { IsSpanOf result (fit.stat_allowed count false stat) }
 {
@@ -173,7 +173,7 @@ fn ifun(r: &Row, kind: u64, stat: u64) -> Span
     }
 }
 
-/// In the line F.
+/// The numbers that field `i` of line F may have, if they are a span.
 fn fetch(v: Variant, before: &[u64], i: usize) -> Option<Span>
     ensures { IfSome result (λ s. IsSpanOf s (spec.fetch_choice_allowed (length (rows v)) (table.row v (fields_by before.now).f.icode) (fields_by before.now).f i)) }
 {
@@ -189,7 +189,7 @@ fn fetch(v: Variant, before: &[u64], i: usize) -> Option<Span>
     }
 }
 
-/// In the line D.
+/// The numbers that field `i` of line D may have, if they are a span.
 fn decode(v: Variant, before: &[u64], i: usize) -> Option<Span>
     ensures { IfSome result (λ s. IsSpanOf s (spec.decode_choice_allowed (length (rows v)) (table.row v (fields_by before.now).d.icode) (fields_by before.now).d i)) }
 {
@@ -210,7 +210,7 @@ fn decode(v: Variant, before: &[u64], i: usize) -> Option<Span>
     }
 }
 
-/// In the line E.
+/// The numbers that field `i` of line E may have, if they are a span.
 fn execute(v: Variant, before: &[u64], i: usize) -> Option<Span>
     ensures { IfSome result (λ s. IsSpanOf s (spec.execute_choice_allowed (length (rows v)) (table.row v (fields_by before.now).e.icode) (fields_by before.now).e i)) }
 {
@@ -233,7 +233,7 @@ fn execute(v: Variant, before: &[u64], i: usize) -> Option<Span>
     }
 }
 
-/// In the line M.
+/// The numbers that field `i` of line M may have, if they are a span.
 fn memory(v: Variant, before: &[u64], i: usize) -> Option<Span>
     ensures { IfSome result (λ s. IsSpanOf s (spec.memory_choice_allowed (length (rows v)) (table.row v (fields_by before.now).m.icode) (fields_by before.now).m i)) }
 {
@@ -253,7 +253,7 @@ fn memory(v: Variant, before: &[u64], i: usize) -> Option<Span>
     }
 }
 
-/// In the line W.
+/// The numbers that field `i` of line W may have, if they are a span.
 fn write(v: Variant, before: &[u64], i: usize) -> Option<Span>
     ensures { IfSome result (λ s. IsSpanOf s (λ n. spec.write_choice_allowed (length (rows v)) (table.row v (fields_by before.now).w.icode) (tests.accesses (table.row v n).memory) (fields_by before.now).w i n)) }
 {
@@ -266,7 +266,7 @@ fn write(v: Variant, before: &[u64], i: usize) -> Option<Span>
     }
 }
 
-/// The numbers that may stand at the place behind others, where they are a span; `None` where they may be none.
+/// The numbers that may follow those of `before`, if they are a span; `None` if they might not be one.
 #[tactic(auto, unfolding(crate::specs::Choices::choice_allowed))]
 pub(crate) fn span_behind(v: Variant, before: &[u64]) -> Option<Span>
     requires { length before.now < field_count }

@@ -45,7 +45,7 @@ fn draw_fields(v: Variant, draws: &mut Draws, out: &mut [bool])
     }
 }
 
-/// Draws truths behind the first ones.
+/// Draws truths after the first ones.
 fn draw_truths(draws: &mut Draws, out: &mut [bool], from: usize)
     requires { from ≤ length out.old }
     ensures { out.new ≡ take from out.old ++ spec.truths_drawn (length out.old - from) draws.old }
@@ -55,7 +55,7 @@ fn draw_truths(draws: &mut Draws, out: &mut [bool], from: usize)
     }
 }
 
-/// Draws the valuation of a generator at a word: the fields, then the atoms.
+/// Draws the valuation of a generator with this word: the fields, then the atoms.
 pub fn draw_valuation(v: Variant, word: u64, out: &mut [bool])
     requires { bit_count ≤ length out.old }
     ensures { out.new ≡ spec.valuation_from v (length out.old - bit_count) word }
@@ -65,8 +65,8 @@ pub fn draw_valuation(v: Variant, word: u64, out: &mut [bool])
     draw_truths(&mut draws, out, BIT_COUNT as usize);
 }
 
-/// Puts valuation `i` of a seed into `out`, for the instruction set of rules and the atoms of their net: it has a variable for each
-/// bit of the fields and one for each atom, and `out` has a bit for each variable.
+/// Puts valuation `i` of a seed into `out`, for the instruction set of the rules and the atoms of their net. The net
+/// has a variable for each bit of the fields and one for each atom; `out` has a bit for each variable.
 pub fn valuation(r: &Rules, seed: u64, i: u64, out: &mut Valuation)
     requires fields { bit_count ≤ r.now.net.vars }
     requires atoms { r.now.net.vars ≤ bit_count + 64 }

@@ -1,4 +1,4 @@
--- The numbers of an allowed valuation may stand behind one another.
+-- Each number of an allowed valuation may follow those before it.
 use Rattle.std.proofs.Common.{◌≡◌, ℕ, ◌+◌, Bool, true, false, not, ◌&&◌, ◌||◌, ◌==◌, nat_lt, nat_le, if◌then◌else◌, length, get_or, take, refl, sym, ap, subst, arith}
 use Rattle.std.proofs.lemmas.Bool.{eqb-true, or_left, or_right, and_from}
 use Rattle.std.proofs.lemmas.Bool.Decides.{nat_tests}
@@ -532,7 +532,7 @@ tested_w_dstM : (v : Variant) (c : Fields) → IsTested v c (w_first + 3)
 unfolding choice_allowed
 tested_w_dstM v c h = (write_back v c.w h.w).dst_m
 
--- the numbers of an allowed valuation may stand behind one another
+-- each number of an allowed valuation may follow those before it
 pub allowed_chosen : (v : Variant) (c : Fields) → allowed v c ≡ true → AreChosen v (numbers c)
 allowed_chosen v c h j lt =
     each_below (IsTested v c) field_count each j lt (lines_allowed v c h)

@@ -17,7 +17,7 @@ use Rattle.prog_gen.proofs.Valid.{irmovq_valid, opq_valid, rrmovq_valid, rmmovq_
 abbrev pub StoresFrom : ℕ → Option Store → Type 0
 StoresFrom data_at store = (address : ℕ) → IsInStore store address → data_at ≤ address
 
--- the work of an instruction that goes on to the one behind it, writes no %r14, and stores from an address on alone
+-- the work of an instruction that continues at `behind`, doesn't write %r14, and stores only from data_at on
 pub record Passes (data_at behind : ℕ) (w : Work) : Type 0 where
   pub stat : w.stat ≡ Aok
   pub next : w.next_pc ≡ behind

@@ -1,4 +1,4 @@
--- Numbers that may stand behind one another are those with which an allowed valuation begins.
+-- Numbers each of which may follow those before it are those with which some allowed valuation begins.
 use Rattle.std.proofs.Common.{◌≡◌, ◌⊎◌, inl, inr, ℕ, zero, suc, ◌+◌, ◌-◌, ◌%◌, ◌^◌, ◌<◌, ◌≤◌, Bool, true, false, List, [], ◌∷◌, ◌++◌, length, get_or, take, None, refl, sym, ap, ◌∙◌, subst, arith}
 use Rattle.std.specs.List.{All, Contains, filter, range_with_len}
 use Rattle.std.proofs.lemmas.Bool.{cases_eq}
@@ -23,7 +23,7 @@ use Rattle.net_fields.proofs.EachBelow.{EachFrom, ◌▹◌, no_more, each_below
 use Rattle.prog_laws.proofs.Lawful.{chosen_allowed}
 use Rattle.prog_laws.proofs.Witness.{Some_below, witness}
 
--- each number is one of its field's, and may stand behind those before it
+-- each number is one of its field's, and may follow those before it
 pub record IsFront (v : Variant) (xs : List ℕ) : Type 0 where
   pub most : length xs ≤ field_count
   pub chosen : AreChosen v xs
@@ -104,7 +104,7 @@ front_more v xs n f room small may = record {
             let lt : j < length xs = grind (arith, ne, h) in
             subst (λ (m : ℕ). m < 2 ^ width j) (sym (get_or-append xs (n ∷ []) 0 j lt)) (f.small j lt)
 
--- another number may stand behind them
+-- another number may follow them
 pub front_next : (v : Variant) (xs : List ℕ) → IsFront v xs → length xs < field_count → Some_below (2 ^ width (length xs)) (choice_allowed v (length xs) (fields_by xs))
 front_next v xs f room =
     let some = witness v (fields_by xs) (length xs) room before in
@@ -119,7 +119,7 @@ front_next v xs f room =
         subst (λ (m : ℕ). choice_allowed v k (fields_by (take k (numbers (fields_by xs)))) m ≡ true) (sym (entries xs k (omega (arith, h, f.most))))
         (subst (λ (ys : List ℕ). choice_allowed v k (fields_by ys) (get_or xs k 0) ≡ true) (sym (front_taken xs k (omega (arith, h)) f.most)) (f.chosen k h))
 
--- so many more numbers make one for each field
+-- further numbers, one for each field that is left
 pub record IsFilled (v : Variant) (xs ys : List ℕ) : Type 0 where
   pub front : IsFront v ys
   pub size : length ys ≡ field_count
@@ -195,7 +195,7 @@ taken_front v c k most range lawful = record {
 pub begun_front : (v : Variant) (xs : List ℕ) → length xs ≤ field_count → IsAllowedPrefix v xs → IsFront v xs
 begun_front v xs most b = subst (IsFront v) b.begins (taken_front v b.fields (length xs) most b.range b.lawful)
 
--- ---- the choices behind a front
+-- ---- the choices after a front
 
 has : (p : ℕ → Bool) (upto n : ℕ) → n < upto → p n ≡ true → Contains (filter p (range_with_len 0 upto)) n
 has p zero n h t = absurd (omega (arith, h))
@@ -258,7 +258,7 @@ go_on v before room b =
         (subst (λ (ys : List ℕ). choice_allowed v (length before) (fields_by ys) n ≡ true) (take-append-le (length before) before (n ∷ []) (omega arith) ∙ take_all (length before) before (omega arith))
         (subst (λ (m : ℕ). choice_allowed v (length before) (fields_by (take (length before) (before ++ n ∷ []))) m ≡ true) last (f.chosen (length before) here)))
 
--- ---- what is drawn
+-- ---- a drawn valuation
 
 chosen_in : (some : List ℕ) (position : ℕ) → 0 < length some → Contains some (chosen some position)
 chosen_in some position h =

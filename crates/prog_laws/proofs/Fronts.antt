@@ -1,4 +1,5 @@
--- The part of a memory below an address: what stands in it from a place on, and that a store from there on leaves it.
+-- The part of a memory below an address: the bytes in it from a place on, and that a store from that address on
+-- leaves it.
 use Rattle.std.proofs.Common.{◌≡◌, ℕ, ◌+◌, ◌-◌, ◌<◌, ◌≤◌, nat_le, List, ◌++◌, length, take, drop, Option, Some, None, refl, sym, ap, ◌∙◌, arith, length-append, length-take, length-drop, take-take, drop-drop}
 use Rattle.std.specs.Int.{to_le_bytes, w64}
 use Rattle.std.proofs.lemmas.Bool.{cond_both, leb-true}
@@ -9,7 +10,7 @@ use Rattle.y86_isa.specs.Blocks.{stored}
 use Rattle.y86_isa.specs.Encoding.{Holds}
 use Rattle.prog_laws.proofs.Doings.{StoresFrom}
 
--- some bytes stand at a place below the address, with more behind them
+-- some bytes are at a place below the address, followed by others
 pub fits_below : (memory bytes more : List ℕ) (data_at at : ℕ) → drop at (take data_at memory) ≡ bytes ++ more → 0 < length more → at + length bytes < data_at
 fits_below memory bytes more data_at at e some =
     omega (arith, simp (length-append, length-drop, length-take) at (ap length e))
@@ -28,7 +29,7 @@ holds_below memory bytes more data_at at e some =
     ∙ (ap (take (length bytes)) (sym (drop-take at (data_at - at) memory) ∙ (ap (λ (k : ℕ). drop at (take k memory)) left ∙ e))
     ∙ take_bytes bytes more)
 
--- what stands behind them
+-- what follows them
 pub behind_them : (memory bytes more : List ℕ) (data_at at next : ℕ) → next ≡ at + length bytes → drop at (take data_at memory) ≡ bytes ++ more → drop next (take data_at memory) ≡ more
 behind_them memory bytes more data_at at next is e =
     ap (λ (k : ℕ). drop k (take data_at memory)) is

@@ -46,7 +46,7 @@ whole_code n = code (data_start n) n 0 n
 start_low : (n : ℕ) → n ≤ 100000 → data_start n < 2000000
 start_low n h = omega (arith, h)
 
--- behind the code stand zeros, more than one of them below the data area
+-- zeros follow the code, more than one of them below the data area
 room : (n : ℕ) → length (whole_code n) + 8 ≤ data_start n
 room n = omega (arith, code_size (data_start n) n 0 n)
 
@@ -72,7 +72,7 @@ is_image n least most =
           (All-replicate (λ byte. byte < 256) (data_start n + 2048 - length (whole_code n)) 0 (omega arith));
     }
 
--- zeros behind a text, up to an address
+-- bytes followed by zeros, up to an address
 front_of : (text : List ℕ) (at more : ℕ) → length text + 1 ≤ at →
     take at (text ++ replicate (at + more - length text) 0) ≡ text ++ 0 ∷ replicate (at - length text - 1) 0
 front_of text at more h =

@@ -1,4 +1,4 @@
--- Numbers that may stand behind one another are those of an allowed valuation.
+-- Numbers each of which may follow those before it are those of an allowed valuation.
 use Rattle.std.proofs.Common.{◌≡◌, ◌+◌, ℕ, ◌<◌, Bool, true, false, not, ◌&&◌, ◌||◌, ◌==◌, nat_lt, nat_le, if◌then◌else◌, length, get_or, take, refl, subst, arith}
 use Rattle.std.proofs.lemmas.Bool.{eqb-true, and_from}
 use Rattle.std.proofs.lemmas.Bool.Decides.{nat_tests}
@@ -53,14 +53,14 @@ pub choose_else : (b x y : Bool) → b ≡ false → y ≡ true → (if b then x
 choose_else true x y e h = absurd (cc)
 choose_else false x y e h = h
 
--- ---- the row of a nop, which a bubble looks like
+-- ---- the row of a nop; a bubble looks like a nop
 
 no_byte : (v : Variant) (n : ℕ) (used : Bool) (x : ℕ) → n ≡ inop → register_field_allowed (row v n).has_byte used x ≡ true → (x == no_register) ≡ true
 unfolding row
 no_byte Base n used x e h = subst (λ m. register_field_allowed (row Base m).has_byte used x ≡ true) e h
 no_byte Full n used x e h = subst (λ m. register_field_allowed (row Full m).has_byte used x ≡ true) e h
 
--- a hidden bit of what isn't good is 0
+-- a hidden bit is 0 for anything but a good instruction
 unset : (b : Bool) → not (not b) ≡ true → b ≡ true
 unset true h = refl
 unset false h = h
@@ -146,7 +146,7 @@ execute_bubble_registers Full n dst_e dst_m src_a src_b e a b c d = (
   nop_row Full n (λ r. register_allowed r.src_b src_b ≡ true) e d,
 )
 
--- of ifun 0 the condition holds
+-- the condition of ifun 0 holds
 sure : (ifun cnd : ℕ) → (ifun == 0) ≡ true → cnd_allowed ifun cnd ≡ true → cnd < 2 → (cnd == 1) ≡ true
 sure ifun cnd e h small = bit (subst (λ (k : ℕ). cnd_allowed k cnd ≡ true) (eqb-true ifun 0 e) h) small
   where
@@ -331,7 +331,7 @@ write_chosen v c h = by (x.kind == bubble) refl
         choose_then _ _ _ e (and_from _ _ (and_from _ _ (and_from _ _ (then_true _ _ _ e f1) code) regs.0) regs.1)
     by false e = choose_else _ _ _ e (and_from _ _ f0 (and_from _ _ (and_from _ _ (else_true _ _ _ e f2) f3) f4))
 
--- numbers that may stand behind one another are those of an allowed valuation
+-- numbers each of which may follow those before it are those of an allowed valuation
 pub chosen_allowed : (v : Variant) (c : Fields) → c.e.cnd < 2 → AreChosen v (numbers c) → allowed v c ≡ true
 unfolding allowed
 chosen_allowed v c small h =

@@ -1,4 +1,4 @@
--- The instruction at a PC whose bytes stand below the data area.
+-- The instruction at a PC whose bytes are below the data area.
 use Rattle.std.proofs.Common.{◌≡◌, ℕ, ◌+◌, ◌*◌, ◌/◌, ◌%◌, ◌^◌, ◌<◌, ◌≤◌, Bool, true, false, cond, List, ◌++◌, length, take, drop, get_or, Some, slice_get, refl, sym, ap, subst, ◌∙◌, arith, add-zero}
 use Rattle.y86_base.specs.Image.{IsSize}
 use Rattle.y86_base.specs.declared.parts.Variant.{Variant}
@@ -23,7 +23,7 @@ in_each Full icode lt = omega (arith, lt)
 valid_in_each : (v : Variant) (i : Instr) → i.icode < 12 → IsValid widest i → IsValid v i
 valid_in_each v i lt h = record { known = in_each v i.icode lt; fits = subst (λ (r : Row). FitsRow r i) (sym (row-widest v i.icode (in_each v i.icode lt))) h.fits }
 
--- the bytes of an instruction stand at the PC, and more behind them
+-- the bytes of an instruction are at the PC, followed by others
 pub record Stands (data_at : ℕ) (i : Instr) (more : List ℕ) (m : Machine) : Type 0 where
   pub sized : IsSize (length m.mem)
   pub held : drop m.pc (take data_at m.mem) ≡ encoded i ++ more
@@ -48,7 +48,7 @@ first_byte : (i : Instr) → get_or (encoded i) 0 0 ≡ 16 * i.icode + i.ifun
 unfolding encoded
 first_byte i = refl
 
--- what it fetches lies below the data area
+-- what it fetches is below the data area
 pub fetches_below : (v : Variant) (data_at : ℕ) (i : Instr) (more : List ℕ) (m : Machine) → Stands data_at i more m → (address : ℕ) → IsFetched v m.mem m.pc address → address < data_at
 fetches_below v data_at i more m s address h =
     let first : ℕ = 16 * i.icode + i.ifun in

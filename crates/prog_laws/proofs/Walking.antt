@@ -28,7 +28,7 @@ use Rattle.prog_laws.proofs.Drawings.{drawn_fits}
 use Rattle.prog_laws.proofs.Fronts.{fits_below, behind_them, stored_above}
 use Rattle.prog_laws.proofs.Standing.{Stands, works_as, fetches_below}
 
--- the machine stands before the code of so many more instructions, with a halt behind them, all below the data area
+-- the machine is at the code of n more instructions, followed by a halt, all below the data area
 pub record Ready (data_at n word : ℕ) (rest : List ℕ) (m : Machine) : Type 0 where
   pub aok : m.stat ≡ Aok
   pub zero : register m.regs 14 ≡ 0
@@ -38,18 +38,18 @@ pub record Ready (data_at n word : ℕ) (rest : List ℕ) (m : Machine) : Type 0
   pub room : 0 < length rest
   pub held : drop m.pc (take data_at m.mem) ≡ code data_at n m.pc word ++ 0 ∷ rest
 
--- whatever the run of a machine fetches lies below an address, and whatever it stores lies from there on
+-- every address from which the run of a machine fetches is below data_at, and every address to which it stores isn't
 pub record Quiet (v : Variant) (data_at : ℕ) (m : Machine) : Type 0 where
   pub fetched : (i address : ℕ) → (run_from v m i).stat ≡ Aok → IsFetched v (run_from v m i).mem (run_from v m i).pc address → address < data_at
   pub stored : (i address : ℕ) → IsStoredBy (retired v (run_from v m i)) address → data_at ≤ address
 
--- the run of a machine has so many instructions more, the last one a halt
+-- the run of a machine has n more instructions, and the last one is a halt
 pub record Ends (v : Variant) (data_at n : ℕ) (m : Machine) : Type 0 where
   pub records : length (records_from v m n) ≡ n
   pub halted : (run_from v m n).stat ≡ Hlt
   pub quiet : Quiet v data_at m
 
--- ---- what its step says of the run
+-- ---- what a step says about the run
 
 stored_by : (v : Variant) (data_at : ℕ) (m : Machine) → is_aok m.stat ≡ true → is_aok (work v m).stat ≡ true → StoresFrom data_at (work v m).store →
     (address : ℕ) → IsStoredBy (retired v m) address → data_at ≤ address
@@ -127,7 +127,7 @@ halts v data_at word rest m r =
 
 -- ---- one instruction
 
--- the instruction that is next, and what stands behind it
+-- the next instruction, and what follows it
 abbrev next : ℕ → Machine → ℕ → Instr
 next data_at m word = (next_drawn data_at m.pc word).instr
 
@@ -180,7 +180,7 @@ ready_next v data_at n word rest m low small r p =
           ∙ ap (λ (k : ℕ). code data_at n k (next_drawn data_at m.pc word).word ++ 0 ∷ rest) (sym pc));
     }
 
--- the machine stands below the data area
+-- the machine's PC is below the data area
 pc_below : (data_at n word : ℕ) (rest : List ℕ) (m : Machine) → Ready data_at n word rest m → m.pc < data_at
 pc_below data_at n word rest m r =
     let behind : List ℕ = code data_at n m.pc word in

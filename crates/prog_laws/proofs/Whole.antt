@@ -19,7 +19,7 @@ runs v n least most = record { records = (walked v n most).records; halted = (wa
 pub keeps : (v : Variant) (n : ℕ) → 1 ≤ n → n ≤ 100000 → KeepsCode v (program n) (data_start n)
 keeps v n least most = record { fetched = (walked v n most).quiet.fetched; stored = (walked v n most).quiet.stored }
 
--- what is stored lies in the data area, what is fetched below it
+-- every store is in the data area, and every fetch below it
 pub pure : (v : Variant) (n k : ℕ) → 1 ≤ n → n ≤ 100000 → Pure v (program n) k
 pure v n k least most i j address _ _ on fetched stored =
     let keeps_code : KeepsCode v (program n) (data_start n) = keeps v n least most in

@@ -1,4 +1,4 @@
--- Behind numbers that may stand behind one another another one may stand, at each place.
+-- After numbers each of which may follow those before it there is one that may follow, at each place.
 use Rattle.std.proofs.Common.{◌≡◌, ℕ, zero, suc, ◌+◌, ◌<◌, ◌^◌, Bool, true, false, not, ◌&&◌, ◌||◌, ◌==◌, nat_lt, nat_le, if◌then◌else◌, List, [], ◌∷◌, length, get_or, take, slice_get, unwrap_or, refl, ap, subst, arith}
 use Rattle.std.proofs.lemmas.Bool.Decides.{nat_tests}
 use Rattle.std.proofs.lemmas.Bool.{or_left, or_right, and_from}
@@ -72,7 +72,7 @@ one_to_four P p1 p2 p3 p4 (suc (suc (suc (suc (suc k))))) h = absurd (too_many k
     too_many : (k : ℕ) → (nat_le 1 (suc (suc (suc (suc (suc k))))) && nat_le (suc (suc (suc (suc (suc k))))) 4) ≡ true → ⊥
     too_many k h = grind (arith, nat_tests)
 
--- the icode of each status; faulted may be told by the icode
+-- the icode of each status; whether it faults may depend on the icode
 status_some : (v : Variant) (faulted : ℕ → Bool) (stat : ℕ) → (nat_le 1 stat && nat_le stat 4) ≡ true → Some_below 16 (λ n. stat_allowed (length (rows v)) (faulted n) stat n)
 status_some Base faulted stat h =
     one_to_four (λ s. Some_below 16 (λ n. stat_allowed (length (rows Base)) (faulted n) s n))
@@ -112,7 +112,7 @@ fetched_some v error = by (set error) refl v
 fetched_ifun_some : (r : Row) (error : ℕ) → Some_below 16 (λ n. nat_le n r.ifun_top && (not (set error) || n == 0))
 fetched_ifun_some r error = record { n = 0; small = omega arith; may_be = and_from _ _ (least r.ifun_top) (or-true (not (set error))) }
 
--- srcB, where it is tied to the destination that is known
+-- srcB, if it has to be the destination that is known already
 source_some : (src dst : RegisterColumn) (dst_e : ℕ) → register_allowed dst dst_e ≡ true
     → Some_below 16 (λ n. register_allowed src n && (not (is_field_b src && is_field_b dst) || n == dst_e))
 source_some Dash dst dst_e h = record { n = 15; small = omega arith; may_be = refl }
@@ -129,7 +129,7 @@ source_some FieldB FieldB dst_e h = record { n = dst_e; small = below dst_e h; m
     same : (n : ℕ) → (n == n) ≡ true
     same n = grind (arith, nat_tests)
 
--- ---- M_Cnd behind the destination
+-- ---- M_Cnd after the destination
 
 -- a row with a condition takes no ifun over 6
 conditional_small : Row → Bool
@@ -219,9 +219,9 @@ memory_cnd_some r kind ifun dst_e known top fits = by (kind == bubble) refl
         of true f = with_register e f (nat_lt ifun 7) refl
         of false f = lost e (subst (λ b. (b || (r.conditional && (dst_e == no_register && not (ifun == 0)))) ≡ true) f fits)
 
--- ---- at each place, behind those that are known
+-- ---- at each place, after those that are known
 
--- the numbers before a place may stand behind one another
+-- each number before a place may follow those before it
 abbrev pub AreBefore : Variant → Fields → ℕ → Type 0
 AreBefore v c j = (k : ℕ) → k < j → choice_allowed v k (fields_by (take k (numbers c))) (get_or (numbers c) k 0) ≡ true
 
@@ -388,7 +388,7 @@ witnessed_w_dstM : (v : Variant) (c : Fields) → IsWitnessed v c (w_first + 3)
 unfolding choice_allowed
 witnessed_w_dstM v c h = (let x = register_some (row v c.w.icode).dst_m in record { n = x.n; small = x.small; may_be = x.may_be })
 
--- another one may stand
+-- another one may follow
 pub witness : (v : Variant) (c : Fields) (j : ℕ) → j < field_count → AreBefore v c j → Some_below (2 ^ width j) (choice_allowed v j (fields_by (take j (numbers c))))
 witness v c j lt h =
     each_below (IsWitnessed v c) field_count each j lt h

@@ -1,5 +1,5 @@
--- What the choices of drawn valuations are: behind numbers with which some allowed valuation begins there is one, and they are the
--- numbers with which some allowed valuation goes on.
+-- What the choices of drawn valuations are: after numbers with which some allowed valuation begins there is a choice,
+-- and the choices are the numbers with which some allowed valuation continues.
 use Rattle.std.specs.Prelude.{ℕ, ◌≡◌, ◌<◌, ◌↔◌, true, List, [], ◌∷◌, ◌++◌, length, take}
 use Rattle.std.specs.List.{Contains}
 use Rattle.y86_base.specs.declared.parts.Variant.{Variant}

@@ -1,5 +1,5 @@
--- The first bytes of four generated programs, computed by a second program. They fix the constants, registers and addresses that are drawn,
--- which the theorems on runs leave open.
+-- The first bytes of four generated programs, computed by a second program. They fix the drawn constants, registers
+-- and addresses, which the theorems on runs leave open.
 use Rattle.std.specs.Prelude.{ℕ, List, [], ◌∷◌, ◌++◌, replicate}
 
 -- cmovle %r8, %rdx; then the halt, and zeros

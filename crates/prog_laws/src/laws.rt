@@ -10,9 +10,9 @@ ghost use Rattle.prog_laws.specs.FirstBytes.{bytes_of_1, bytes_of_2, bytes_of_5,
 ghost use Rattle.prog_gen.specs.Programs.{program, data_start};
 ghost use Rattle.prog_laws.specs.Laws.{HasDataArea, RunsToHalt, KeepsCode};
 
-/// Program `n` is an image, the last 2048 bytes of which are its data area. Its run has n + 1 records and ends with HLT,
-/// for both instruction sets. What it fetches lies below its data area and what it stores lies in it, so that no
-/// instruction ever stores what another fetches. Programs 1, 2, 5 and 7 begin with known bytes.
+/// Program `n` is an image whose last 2048 bytes are its data area. Its run has n + 1 records and ends with HLT, for
+/// both instruction sets. It fetches only below its data area and stores only in it, so that no instruction ever
+/// stores what another fetches. Programs 1, 2, 5 and 7 begin with known bytes.
 #[tactic(auto, using(crate::proofs::Images::is_image))]
 pub fn law_of_programs()
     ensures image { (n : ℕ) → 1 ≤ n → n ≤ 100000 → IsImage (program n) }
@@ -26,8 +26,8 @@ pub fn law_of_programs()
     ensures seventh { take (length bytes_of_7) (program 7) ≡ bytes_of_7 }
 {}
 
-/// What is drawn is an allowed valuation. Behind numbers with which an allowed valuation begins there is a choice, and the choices
-/// are just the numbers with which an allowed valuation goes on.
+/// A drawn valuation is allowed. After numbers with which an allowed valuation begins there is a choice, and the
+/// choices are exactly the numbers with which an allowed valuation continues.
 pub fn law_of_draws()
     ensures drawn { (v : Variant) (atoms seed i : ℕ) → allowed v (fields_of (valuation v atoms seed i)) ≡ true }
     ensures choices { (v : Variant) (before : List ℕ) → length before < field_count → IsAllowedPrefix v before → PrefixGoesOn v before }

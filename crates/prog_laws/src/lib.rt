@@ -1,4 +1,4 @@
-//! Theorems on what is generated: how a program runs, and that each drawn valuation is allowed.
+//! Theorems about generated programs and valuations: how a program runs, and that each drawn valuation is allowed.
 #![tactic(auto)]
 
 mod laws;

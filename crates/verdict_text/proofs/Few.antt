@@ -1,4 +1,4 @@
--- The numbers that few bits spell are those of words; and a line whose beginning is put in two parts.
+-- Numbers that few bits spell fit a word; and a line whose beginning is put in two parts.
 use Rattle.std.proofs.Common.{◌≡◌, ℕ, ◌+◌, ◌*◌, ◌%◌, ◌^◌, ◌≤◌, ◌<◌, Bool, false, List, ◌++◌, append_assoc, codes, get_or, refl, sym, ap, ◌∙◌, arith}
 use Rattle.std.proofs.Math.Nat.{pow-le-pow_right}
 use Rattle.net_fields.proofs.Loops.{number_more}

@@ -24,11 +24,11 @@ abbrev pub atom_text : List (List ℕ) → Atom → Bool → List ℕ
 atom_text names a truth =
     kind_text a.kind ++ leaf_text names a.left ++ codes "," ++ leaf_text names a.right ++ truth_text truth
 
--- the atoms in order, whose truths are the bits from the first one on
+-- the atoms in order; their truths are the bits from the first one on
 abbrev pub atoms_text : List (List ℕ) → List Bool → ℕ → List Atom → List ℕ
 atoms_text names w first [] = []
 atoms_text names w first (a ∷ more) = atom_text names a (get_or w first false) ++ atoms_text names w (first + 1) more
 
--- the line of all atoms, which stand behind the fields
+-- the line of all atoms; their bits follow those of the fields
 unfoldable pub atoms_line : List (List ℕ) → List Bool → ℕ → List Atom → List ℕ
 atoms_line names w first atoms = codes "atoms" ++ atoms_text names w first atoms ++ codes "\n"

@@ -1,4 +1,5 @@
--- The texts of the verdicts on PIPE: of a Yes the settings, of a No the obligation, the lines of the valuation, and its atoms.
+-- The output of the verdicts on PIPE: for a `yes` the settings; for a `no` the obligation, the lines of the
+-- valuation, and its atoms.
 use Rattle.std.specs.Prelude.{ℕ, Bool, true, false, ◌==◌, codes, List, [], ◌∷◌, ◌++◌, map, if◌then◌else◌}
 use Rattle.y86_base.specs.Numeral.{numeral}
 use Rattle.ctl_atoms.specs.declared.leaf.Atom.{Atom}

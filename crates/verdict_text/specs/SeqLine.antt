@@ -1,4 +1,4 @@
--- The texts of a No of SEQ and of SEQ+: the obligation, the lines of the valuation, and its atoms.
+-- The output of a `no` of SEQ and of SEQ+: the obligation, the lines of the valuation, and its atoms.
 use Rattle.std.specs.Prelude.{ℕ, Bool, codes, List, [], ◌∷◌, ◌++◌}
 use Rattle.y86_base.specs.Numeral.{numeral}
 use Rattle.ctl_atoms.specs.declared.leaf.Atom.{Atom}
@@ -18,7 +18,7 @@ seq_numbers c =
     ∷ field (codes "derror") c.derror
     ∷ []
 
--- those of the line P of SEQ+: the icode of the instruction before, and whether its condition held
+-- those of the line P of SEQ+: the icode of the previous instruction, and whether its condition held
 unfoldable pub previous_numbers : ℕ → ℕ → List Labelled
 previous_numbers icode cnd = field (codes "icode") icode ∷ field (codes "cnd") cnd ∷ []
 
@@ -26,7 +26,7 @@ previous_numbers icode cnd = field (codes "icode") icode ∷ field (codes "cnd")
 unfoldable pub seq_no : List (List ℕ) → ℕ → List Bool → List Atom → List ℕ
 seq_no names rule w atoms = codes "no S" ++ numeral 10 1 rule ++ codes "\n" ++ labelled_line (codes "S") (seq_numbers (fields_of w)) ++ atoms_line names w bit_count atoms
 
--- the same of SEQ+, with the numbers of its line P and the fields of its line S
+-- the same for SEQ+, with the numbers of its line P and the fields of its line S
 unfoldable pub plus_no : List (List ℕ) → ℕ → ℕ → ℕ → Fields → List Bool → List Atom → List ℕ
 plus_no names rule icode cnd c w atoms =
     codes "no S" ++ numeral 10 1 rule ++ codes "\n" ++ labelled_line (codes "P") (previous_numbers icode cnd) ++ labelled_line (codes "S") (seq_numbers c)

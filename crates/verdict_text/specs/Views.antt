@@ -8,6 +8,6 @@ use Rattle.verdict_text.specs.declared.numbers.ShownField.{ShownField}
 abbrev pub shown : List Bool → List ShownField → List Labelled
 shown w fields = map (λ (x : ShownField). field x.label.now (spelt w x.place.first x.place.bits)) fields
 
--- each has a number that a word can tell
+-- each field has at most 4 bits, so that its number fits a word
 abbrev pub are_few : List ShownField → Bool
 are_few fields = list_all (λ (x : ShownField). nat_le x.place.bits 4) fields

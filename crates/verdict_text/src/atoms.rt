@@ -20,7 +20,7 @@ fn put_leaf(out: &mut Vec<u8>, rows: &[Row], leaf: Leaf) -> Result<(), Memory>
     }
 }
 
-/// What stands in front of an atom's leaves.
+/// What precedes an atom's leaves.
 fn opening(kind: AtomKind) -> &'static [u8]
     ensures { result.now ≡ kind_text kind }
 {
@@ -30,7 +30,7 @@ fn opening(kind: AtomKind) -> &'static [u8]
     }
 }
 
-/// What stands behind an atom's leaves.
+/// What follows an atom's leaves.
 fn closing(truth: bool) -> &'static [u8]
     ensures { result.now ≡ truth_text truth }
 {
@@ -48,7 +48,7 @@ fn put_atom(out: &mut Vec<u8>, rows: &[Row], atom: Atom, truth: bool) -> Result<
     put(out, closing(truth))
 }
 
-/// Puts the line of the atoms, whose truths are the bits from the first one on.
+/// Puts the line of the atoms. Their truths are the bits from the first one on.
 #[tactic(auto, unfolding(crate::specs::Atoms::atoms_line))]
 pub(crate) fn put_atoms(
     out: &mut Vec<u8>,

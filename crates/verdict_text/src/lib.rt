@@ -1,4 +1,4 @@
-//! The texts of verdicts. A no has the false obligation and the lines of its valuation; a yes has the settings.
+//! The output of verdicts. A `no` has the false obligation and the lines of its valuation; a `yes` has the settings.
 #![tactic(auto)]
 
 mod atoms;

@@ -1,4 +1,4 @@
-//! Texts of labels and numbers.
+//! The output of labels and numbers.
 ghost use Rattle.std.specs.Prelude.{◌≡◌, ◌≤◌, ◌%◌, ◌^◌, ◌++◌, codes, true, false, get_or, OnOk};
 ghost use Rattle.y86_base.specs.Numeral.{numeral};
 ghost use Rattle.net_fields.specs.Spelling.{bit, spelt};
@@ -31,7 +31,7 @@ pub(crate) fn number_at(bits: &[bool], place: BitRange) -> u64
     n
 }
 
-/// A field as it is shown: its label, and its place in a valuation.
+/// A field in the output: its label, and its place in a valuation.
 #[derive(Clone, Copy)]
 pub struct ShownField {
     pub label: &'static str,
@@ -73,7 +73,7 @@ fn put_fields(out: &mut Vec<u8>, bits: &[bool], fields: &[ShownField]) -> Result
     Ok(())
 }
 
-/// Puts a line: how it begins, and its fields.
+/// Puts a line: its beginning, and its fields.
 #[tactic(auto, unfolding(crate::specs::Fields::labelled_line))]
 pub(crate) fn put_line(
     out: &mut Vec<u8>,

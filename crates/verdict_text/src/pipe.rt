@@ -1,4 +1,4 @@
-//! The texts of the verdicts on PIPE.
+//! The output of the verdicts on PIPE.
 ghost use Rattle.std.specs.Prelude.{◌≡◌, ◌≤◌, ◌++◌, Bool, List, true, IfOk, OnOk, length};
 ghost use Rattle.hcl_types.specs.Tables.{row_names};
 ghost use Rattle.net_fields.specs.Spelling.{spelt};
@@ -42,7 +42,7 @@ macro_rules! shown_fields {
 
 static FIELDS: [ShownField; FIELD_COUNT] = field_table!(shown_fields);
 
-/// The fields of a line of PIPE as they are shown, without the kind of what a stage holds.
+/// The fields of a line of PIPE in the output, without the kind of what a stage holds.
 #[tactic(auto, unfolding(crate::specs::PipeLines::line_numbers, pipe_fields::specs::Layout::fields_of))]
 pub fn line_fields(line: StageLine) -> &'static [ShownField]
     ensures shown { (w : List Bool) → shown w result.now ≡ line_numbers line (fields_of w) }
@@ -57,7 +57,7 @@ pub fn line_fields(line: StageLine) -> &'static [ShownField]
     }
 }
 
-/// Puts the line of a stage that holds something of this kind.
+/// Puts the line of a stage, with the kind of what it holds.
 fn put_stage(
     out: &mut Vec<u8>,
     letter: &[u8],
@@ -85,8 +85,8 @@ fn put_lines(out: &mut Vec<u8>, bits: &[bool]) -> Result<(), Memory>
     put_stage(out, b"W", bits, place::W_KIND, StageLine::W)
 }
 
-/// The text of a No of PIPE: the obligation that is false, the valuation at which it is, by the names of the rows of
-/// PIPE's table, and the truths of its atoms.
+/// The output of a `no` of PIPE: the obligation that is false, the valuation at which it is, by the names of the rows
+/// of PIPE's table, and the truths of its atoms.
 #[tactic(auto, unfolding(crate::specs::PipeLines::pipe_no))]
 pub fn pipe_refusal(
     alloc: Global,
@@ -136,7 +136,7 @@ fn put_truth(out: &mut Vec<u8>, label: &[u8], truth: bool) -> Result<(), Memory>
     put(out, digit_of(truth))
 }
 
-/// The text of a Yes of PIPE: the file's settings, those of jumps by their ifun.
+/// The output of a `yes` of PIPE: the file's settings, those of jumps by their ifun.
 #[tactic(auto, unfolding(crate::specs::PipeLines::pipe_yes))]
 pub fn pipe_acceptance(alloc: Global, settings: &Settings) -> Result<Vec<u8>, Memory>
     ensures { IfOk result (λ text. text.items ≡ pipe_yes settings.now) }

@@ -1,4 +1,4 @@
-//! The texts of a No of SEQ and of SEQ+.
+//! The output of a `no` of SEQ and of SEQ+.
 ghost use Rattle.std.specs.Prelude.{◌≡◌, ◌≤◌, Bool, List, true, IfOk, length};
 ghost use Rattle.hcl_types.specs.Tables.{row_names};
 ghost use Rattle.seq_obligations.specs.Fields.{fields_of, line_at, number_at, p_cnd, p_icode, plus_line};
@@ -15,7 +15,7 @@ use seq_obligations::{BIT_COUNT, LINE, P_CND, P_ICODE, PLUS_BIT_COUNT, PLUS_LINE
 use std::alloc::Global;
 use y86_base::{Memory, Numeral, put};
 
-/// The field of a label and a place.
+/// The field with a label and a place.
 macro_rules! shown_field {
     ($label:literal, $place:expr) => {
         ShownField {
@@ -28,7 +28,7 @@ macro_rules! shown_field {
     };
 }
 
-/// The fields of a line S that stand at these places.
+/// The fields of a line S at these places.
 macro_rules! line_fields {
     ($line:expr) => {
         [
@@ -52,7 +52,7 @@ static PREVIOUS_FIELDS: [ShownField; 2] = [
     shown_field!("cnd", P_CND),
 ];
 
-/// The fields of the line S of SEQ as they are shown.
+/// The fields of the line S of SEQ in the output.
 #[tactic(auto, unfolding(crate::specs::SeqLine::seq_numbers, seq_obligations::specs::Fields::fields_of))]
 pub fn seq_fields() -> &'static [ShownField]
     ensures shown { (w : List Bool) → shown w result.now ≡ seq_numbers (fields_of w) }
@@ -61,7 +61,7 @@ pub fn seq_fields() -> &'static [ShownField]
     &FIELDS
 }
 
-/// The fields of the line S of SEQ+ as they are shown.
+/// The fields of the line S of SEQ+ in the output.
 #[tactic(auto, unfolding(crate::specs::SeqLine::seq_numbers, seq_obligations::specs::Fields::line_at))]
 pub fn plus_fields() -> &'static [ShownField]
     ensures shown { (w : List Bool) → shown w result.now ≡ seq_numbers (line_at plus_line w) }
@@ -70,7 +70,7 @@ pub fn plus_fields() -> &'static [ShownField]
     &PLUS_FIELDS
 }
 
-/// The fields of the line P of SEQ+ as they are shown.
+/// The fields of the line P of SEQ+ in the output.
 #[tactic(auto, unfolding(crate::specs::SeqLine::previous_numbers))]
 pub fn previous_fields() -> &'static [ShownField]
     ensures shown { (w : List Bool) → shown w result.now ≡ previous_numbers (number_at w p_icode) (number_at w p_cnd) }
@@ -79,7 +79,7 @@ pub fn previous_fields() -> &'static [ShownField]
     &PREVIOUS_FIELDS
 }
 
-/// The text of a No of SEQ: the obligation that is false, the valuation at which it is, by the names of the rows of
+/// The output of a `no` of SEQ: the obligation that is false, the valuation at which it is, by the names of the rows of
 /// SEQ's table, and the truths of its atoms.
 #[tactic(auto, unfolding(crate::specs::SeqLine::seq_no))]
 pub fn seq_refusal(
@@ -102,8 +102,8 @@ pub fn seq_refusal(
     Ok(out)
 }
 
-/// The same of SEQ+, by the names of the rows of its own table: the line P, whose bits stand first, is told before the
-/// line S.
+/// The same for SEQ+, by the names of the rows of its own table. The line P, whose bits come first, is printed before
+/// the line S.
 #[tactic(auto, unfolding(crate::specs::SeqLine::plus_no))]
 pub fn plus_refusal(
     alloc: Global,

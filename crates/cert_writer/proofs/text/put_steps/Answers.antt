@@ -5,7 +5,6 @@ use Rattle.cert_writer.specs.Proofs.{AreProved}
 use Rattle.cert_writer.proofs.Writing.{read_at, step_more}
 use Rattle.cert_writer.proofs.text.put_steps.Goals as goal
 
--- src/text.rt:106:5
 pub loop-i-preserved : goal.loop-i-preserved
 loop-i-preserved c =
     let none : CertLine = line.Term 0 0 0 in

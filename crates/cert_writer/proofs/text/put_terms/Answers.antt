@@ -3,7 +3,6 @@ use Rattle.cert_checker.specs.declared.known.TermDef.{TermDef}
 use Rattle.cert_writer.proofs.Writing.{read_at, term_more}
 use Rattle.cert_writer.proofs.text.put_terms.Goals as goal
 
--- src/text.rt:82:5
 pub loop-i-preserved : goal.loop-i-preserved
 loop-i-preserved c =
     let none : TermDef = record { var = 0; low = 0; high = 0 } in

@@ -8,7 +8,7 @@ use Rattle.lane_eval.proofs.Earliest.{at_index, block_some, block_past}
 use Rattle.lane_eval.proofs.Seeds.{shifted_seed}
 use Rattle.lane_eval.proofs.search.first_false.Goals as goal
 
--- the rules at a block's valuations
+-- the rules at the valuations of a block
 same : (r : Rules) (seed at i : ℕ) (x : Rule) → holds_drawn r ((seed + at) % 2 ^ 64) i x ≡ holds_drawn r seed (at + i) x
 same r seed at i x = ap (truth r.net x.gate) (shifted_seed r.variant (r.net.vars - bit_count) seed at i (at + i) refl)
 

@@ -7,7 +7,7 @@ use Rattle.prog_gen.specs.Choices.{width, numbers_drawn, chosen, choices}
 use Rattle.prog_gen.proofs.Fields.{width_small, total_more, total_within, number_more, word_more, bits_more, field_behind, all_numbers, all_words}
 use Rattle.prog_gen.proofs.valuations.draw_fields.Goals as goal
 
--- how many bits the field at a place has, and that it ends within the fields' bits
+-- the number of bits of the field at a place, and that it ends within the fields' bits
 abbrev none : FieldSpec
 none = record { bits = 0; name = None }
 

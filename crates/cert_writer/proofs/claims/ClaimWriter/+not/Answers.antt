@@ -3,7 +3,6 @@ use Rattle.cert_writer.proofs.Steps.{not_open, not_call, not_next, not_cases_nex
 use Rattle.cert_checker.specs.Rules as spec
 use Rattle.cert_writer.proofs.claims.ClaimWriter.+not.Goals as goal
 
--- src/claims.rt:228:23
 pub not-requires : goal.not-requires
 not-requires t c =
     let large = not_open c.args.self.now.ranks c.args.self.now.terms c.requires.ordered c.args.a c.args.c c.requires.is (sym c.if-is_plain_not.ensures) in
@@ -13,7 +12,6 @@ not-requires t c =
     (c.part_of-else-is_plain_not.ensures ∙ ap (λ v. spec.part c.args.self.now.terms v false c.args.c) c.variable-var.ensures) in
     (omega (arith, c.decreases, x.0), x.1)
 
--- src/claims.rt:229:24
 pub not-requires-else-is_plain_not : goal.not-requires-else-is_plain_not
 not-requires-else-is_plain_not t c =
     let large = not_open c.args.self.now.ranks c.args.self.now.terms c.requires.ordered c.args.a c.args.c c.requires.is (sym c.if-is_plain_not.ensures) in
@@ -22,7 +20,6 @@ not-requires-else-is_plain_not t c =
     c.in_ok-low.ensures.kept c.requires.ranks c.requires.ordered c.requires.is large c.variable-var.ensures c.part_of-else-is_plain_not-2.ensures c.part_of-else-is_plain_not-3.ensures in
     (omega (arith, c.decreases, x.0), x.1)
 
--- src/claims.rt:230:13
 pub push-requires-else-is_plain_not : goal.push-requires-else-is_plain_not
 push-requires-else-is_plain_not t c =
     let large = not_open c.args.self.now.ranks c.args.self.now.terms c.requires.ordered c.args.a c.args.c c.requires.is (sym c.if-is_plain_not.ensures) in

@@ -6,7 +6,6 @@ use Rattle.cert_writer.proofs.Nodes.{written_push}
 use Rattle.cert_writer.proofs.terms.TermWriter.push.Goals as goal
 use Rattle.cert_writer.proofs.terms.TermWriter.push.Goals.{in-Ok, in-Err}
 
--- src/terms.rt:79:5
 pub invariant_of-self : goal.invariant_of-self
 invariant_of-self c = elim c.match-push.branch [
   | in-Ok w ↦ subst (λ (xs : List TermDef). IsTermTable (record { store = c.self.inside.store.now; order = c.self.inside.order.now; ranks = c.self.inside.ranks.now; terms = xs; found = c.self.inside.found.items }))
