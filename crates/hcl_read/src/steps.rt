@@ -5,6 +5,7 @@ ghost use Rattle.hcl_read.specs.Machine as machine;
 ghost use Rattle.hcl_read.specs.Depth.{level_behind};
 ghost use Rattle.hcl_read.specs.Steps.{Steps};
 ghost use Rattle.hcl_read.specs.declared.frames.ExprState.TheVariants.{Want};
+ghost use Rattle.hcl_read.specs.declared.frames.Frame.TheVariants.{Set, Guard, Value};
 ghost use Rattle.hcl_read.specs.declared.state.BodyMove.TheVariants.{On};
 
 use crate::fault::HclWhy;
@@ -169,34 +170,143 @@ fn want(alloc: Global, level: Level, stack: Stack, token: Token) -> Result<BodyM
     }
 }
 
+/// A set that is being read: the operand before `in`, the members so far, and the level around the set.
+#[derive(Drop)]
+struct OpenSet {
+    left: Boxed<Expr>,
+    members: Items<Expr>,
+    level: Level,
+}
+
+/// A case expression that is being read: its side, the branches so far, and the level around it.
+#[derive(Drop)]
+struct OpenCase {
+    side: OperandSide,
+    branches: Items<Branch>,
+    level: Level,
+}
+
+/// Reads a token after a member of a set.
+#[tactic(auto, unfolding(crate::specs::Machine::close))]
+fn close_member(
+    alloc: Global,
+    e: Expr,
+    set: OpenSet,
+    stack: Stack,
+    token: Token,
+) -> Result<BodyMove, HclWhy>
+    ensures { Steps result (machine.close e (Set set.left set.members set.level ∷ stack) token) }
+{
+    let OpenSet {
+        left,
+        members,
+        level,
+    } = set;
+    let mut stack = stack;
+    let spot = match token {
+        Token::Comma => {
+            stack.push(Frame::Set(left, with_last(members, e)?, level))?;
+            ExprState::Want(start_level(alloc))
+        }
+        Token::CloseBrace => related(alloc, level, Expr::In(left, with_last(members, e)?))?,
+        other => return Err(refusal(other)),
+    };
+    Ok(BodyMove::On(spot, stack))
+}
+
+/// Reads a token after a guard.
+#[tactic(auto, unfolding(crate::specs::Machine::close))]
+fn close_guard(
+    alloc: Global,
+    e: Expr,
+    case: OpenCase,
+    stack: Stack,
+    token: Token,
+) -> Result<BodyMove, HclWhy>
+    ensures { Steps result (machine.close e (Guard case.side case.branches case.level ∷ stack) token) }
+{
+    let OpenCase {
+        side,
+        branches,
+        level,
+    } = case;
+    let mut stack = stack;
+    match token {
+        Token::Colon => {
+            stack.push(Frame::Value(side, branches, Boxed::of(alloc, e)?, level))?;
+            Ok(BodyMove::On(ExprState::Want(start_level(alloc)), stack))
+        }
+        other => Err(refusal(other)),
+    }
+}
+
+/// Reads a token after the value of a branch.
+#[tactic(auto, unfolding(crate::specs::Machine::close))]
+fn close_value(
+    e: Expr,
+    guard: Boxed<Expr>,
+    case: OpenCase,
+    stack: Stack,
+    token: Token,
+) -> Result<BodyMove, HclWhy>
+    ensures { Steps result (machine.close e (Value case.side case.branches guard case.level ∷ stack) token) }
+{
+    let OpenCase {
+        side,
+        branches,
+        level,
+    } = case;
+    match token {
+        Token::Semicolon => {
+            let guard = guard.into_inner();
+            let branch = Branch { guard, value: e };
+            let branches = with_last(branches, branch)?;
+            Ok(BodyMove::On(ExprState::Cases(side, branches, level), stack))
+        }
+        other => Err(refusal(other)),
+    }
+}
+
 /// Reads a token after an expression.
 #[tactic(auto, unfolding(crate::specs::Machine::close))]
 fn close(alloc: Global, e: Expr, stack: Stack, token: Token) -> Result<BodyMove, HclWhy>
     ensures { Steps result (machine.close e stack token) }
 {
     let mut stack = stack;
-    let spot = match (stack.pop(), token) {
-        (None, Token::Semicolon) => return Ok(BodyMove::Ended(e)),
-        (Some(Frame::Paren(side, level)), Token::CloseParen) => put(alloc, side, level, e)?,
-        (Some(Frame::Set(left, members, level)), Token::Comma) => {
-            stack.push(Frame::Set(left, with_last(members, e)?, level))?;
-            ExprState::Want(start_level(alloc))
+    match stack.pop() {
+        None => match token {
+            Token::Semicolon => Ok(BodyMove::Ended(e)),
+            other => Err(refusal(other)),
+        },
+        Some(Frame::Paren(side, level)) => match token {
+            Token::CloseParen => Ok(BodyMove::On(put(alloc, side, level, e)?, stack)),
+            other => Err(refusal(other)),
+        },
+        Some(Frame::Set(left, members, level)) => {
+            let set = OpenSet {
+                left,
+                members,
+                level,
+            };
+            close_member(alloc, e, set, stack, token)
         }
-        (Some(Frame::Set(left, members, level)), Token::CloseBrace) => {
-            related(alloc, level, Expr::In(left, with_last(members, e)?))?
+        Some(Frame::Guard(side, branches, level)) => {
+            let case = OpenCase {
+                side,
+                branches,
+                level,
+            };
+            close_guard(alloc, e, case, stack, token)
         }
-        (Some(Frame::Guard(side, branches, level)), Token::Colon) => {
-            stack.push(Frame::Value(side, branches, Boxed::of(alloc, e)?, level))?;
-            ExprState::Want(start_level(alloc))
+        Some(Frame::Value(side, branches, guard, level)) => {
+            let case = OpenCase {
+                side,
+                branches,
+                level,
+            };
+            close_value(e, guard, case, stack, token)
         }
-        (Some(Frame::Value(side, branches, guard, level)), Token::Semicolon) => {
-            let guard = guard.into_inner();
-            let branch = Branch { guard, value: e };
-            ExprState::Cases(side, with_last(branches, branch)?, level)
-        }
-        (_, other) => return Err(refusal(other)),
-    };
-    Ok(BodyMove::On(spot, stack))
+    }
 }
 
 /// Reads a token after an operand of `&&`, which is the last of the first list.
