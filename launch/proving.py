@@ -13,7 +13,7 @@ OF_A_JOB = 2_000_000_000
 # A line comes at least so often, in seconds.
 SILENT_FOR = 60
 # What `rt ci` says of a crate.
-PROVED = re.compile(r"^rt: (\w+) (?:proved|is kept)$", re.M)
+PROVED = re.compile(r"^rt: (\w+) (?:proved|is kept)\b", re.M)
 NOT_PROVED = re.compile(r"^rt: (\w+) NOT PROVED\b", re.M)
 
 
@@ -169,7 +169,7 @@ def proved(here, programs, room):
     sums = {it: sources(here, it, "sum")[1] for it in programs}
     copied(here, crates, room)
     os.makedirs(f"{here}/crates/{programs[0]}/out", exist_ok=True)
-    tell(f"proving {len(crates)} crates; that takes half an hour to an hour on four processors")
+    tell(f"proving {len(crates)} crates; that takes less than an hour on four processors")
     proof = Proof(room, len(crates), f"{here}/crates/{programs[0]}/out/prove.log")
     proof.run()
     if any(sources(here, it, "sum")[1] != sums[it] for it in programs):
