@@ -110,8 +110,7 @@ class Proof:
     def run(self):
         """Waits for the end. Raises Stopped if something has no proof."""
         try:
-            while self.command.poll() is None:
-                time.sleep(0.2)
+            while not self.has_ended():
                 self.tell_news()
         finally:
             self.end()
@@ -119,6 +118,14 @@ class Proof:
         if self.command.returncode:
             failed = NOT_PROVED.search(self.said())
             raise Stopped(f"{f'no proof of {failed[1]}' if failed else 'the proof failed'}; {self.log} says why")
+
+    def has_ended(self):
+        """Waits for the end, but no longer than a moment."""
+        try:
+            self.command.wait(timeout=1)
+        except subprocess.TimeoutExpired:
+            return False
+        return True
 
     def end(self):
         """Ends `rt ci` and the provers that it began."""
