@@ -46,7 +46,8 @@ fn is_comment(line: &[u8]) -> bool
     line == b"c".as_slice()
 }
 
-/// The number of lines before the first one that is neither a symbol nor the line `c`, if there is such a line.
+/// The number of lines before the first one that is neither a symbol nor the line `c` nor after that line, if there is
+/// such a line.
 #[tactic(auto, using(crate::proofs::Tails::read_none, crate::proofs::Tails::read_more, crate::proofs::Tails::read_comment, crate::proofs::Tails::read_bad, crate::proofs::Tails::read_end, crate::proofs::Tails::read_rest, crate::proofs::Tails::read_all))]
 pub(crate) fn tail_fault(h: Header, text: &[u8]) -> Option<usize>
     ensures fault { MatchOption result (IsTail h (ended text.now) (spec.has_more text.now)) (λ k. IsTailFault h (ended text.now) (spec.has_more text.now) k) }

@@ -72,7 +72,7 @@ unfoldable pub pipe_plan : List ℕ → List Term → List ℕ → ℕ → ℕ �
 pipe_plan verdict terms object size limit trace v =
     reads object file_limit (λ bytes. value_from (image_of_text object (object_of bytes size)) (λ image. answer_in (PipeAnswers v terms limit trace verdict image)))
 
--- the same if a check may be asked for: then it runs only after a `yes`, which is printed first
+-- the same, but a check may be asked for; if it is, the object file runs only after a `yes`, which is printed first
 unfoldable pub checked_plan : List ℕ → List Term → List ℕ → ℕ → ℕ → Bool → Bool → Variant → Plan
 checked_plan name terms object size limit trace false v = pipe_plan [] terms object size limit trace v
 checked_plan name terms object size limit trace true v =

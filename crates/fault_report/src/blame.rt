@@ -54,7 +54,7 @@ fn blame_name(rows: &[Row], name: &[u8], wanted: Kind, leaf: usize) -> Option<Bl
 }
 
 /// The first part of an expression that has the wrong kind, if the expression is required to have kind `wanted`. Adds
-/// the names and numbers that it passes to `leaf`.
+/// to `leaf` how many names and numbers it passes.
 #[cycle(blaming)]
 pub fn first_blame(rows: &[Row], e: &Expr, wanted: Kind, leaf: &mut usize) -> Option<Blame> {
     let first = *leaf;

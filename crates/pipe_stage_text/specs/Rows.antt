@@ -77,9 +77,9 @@ is_held row watch = watch.d.row == row || watch.e.row == row || watch.m.row == r
 abbrev pub next_watch : Observer → (ℕ → ℕ) → StageContents
 next_watch s f = moved_watch s.watch (fetch_of s f) (requested_updates f)
 
--- For a row that only one stage holds, in the cycle with this number: its letter is small (`f`, `d`, `e`, `m`) exactly
--- if no register holds it next. The letter of a fetch is small exactly if D doesn't hold it next and F and D don't both
--- stay.
+-- For a row that only one stage holds, in the cycle with this number: its letter is small (`d`, `e`, `m`) exactly if no
+-- register holds it next; but the letter of a fetch is small (`f`) exactly if D doesn't hold it next and F and D don't
+-- both stay.
 pub record LettersTell (number : ℕ) (s : Observer) (f : ℕ → ℕ) (row : ℕ) : Type 0 where
   pub in_f : Stands row (fetch_of s f) s.watch true false false false false →
       letter_of row (shown_of number s f)

@@ -32,8 +32,8 @@ pub fn law_of_changes()
     ensures { EachCycleTellsChanges }
 {}
 
-/// Each row is one fetch or one bubble: its register holds what the machine has there, a fetch has a new row unless it
-/// is made again, and a small letter means that no register holds the row in the next cycle.
+/// Each row is one fetch or one bubble: what is shown in a register is what the machine has there, a fetch has a new
+/// row unless it is made again, and a small letter means that no register holds the row in the next cycle.
 pub fn law_of_rows()
     ensures rows { EachRowTells }
     ensures fetches { EachFetchIsARow }

@@ -15,7 +15,7 @@ pub record KeepsCode (v : Variant) (image : List ℕ) (data_at : ℕ) : Type 0 w
   pub fetched : (i address : ℕ) → (run v image i).stat ≡ Aok → IsFetched v (run v image i).mem (run v image i).pc address → address < data_at
   pub stored : (i address : ℕ) → IsStoredBy (retired v (run v image i)) address → data_at ≤ address
 
--- the data area of an image of n instructions: 256 words, the last of the image, from the first word's address that
+-- the data area of an image of n instructions: 256 words, the last of the image, from the first multiple of 8 on that
 -- leaves space for n instructions of at most 10 bytes and for 8 bytes of zeros
 pub record HasDataArea (image : List ℕ) (n data_at : ℕ) : Type 0 where
   pub words : length image ≡ data_at + 256 * 8

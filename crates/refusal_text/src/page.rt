@@ -105,7 +105,7 @@ fn put_change(
     out.push_str(scene.name(id))
 }
 
-/// Writes the changes that repair the motion alone.
+/// Writes the changes each of which by itself repairs the motion.
 fn put_single_repairs(
     out: &mut String,
     scene: &Scene<'_>,

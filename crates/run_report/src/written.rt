@@ -13,7 +13,7 @@ pub fn same_instruction(one: &Rec, other: &Rec) -> bool {
     one.pc == other.pc && one.icode == other.icode && one.ifun == other.ifun
 }
 
-/// Writes an instruction, as the bytes in memory if they are its own.
+/// Writes an instruction: its text, from the bytes in memory, if they are its own; otherwise its icode and ifun.
 pub fn put_text(out: &mut Vec<u8>, memory: &Image, r: &Rec) -> Result<(), Memory> {
     if r.stat == Stat::Ins {
         return put(out, b"an invalid instruction");

@@ -220,6 +220,6 @@ abbrev pub checked : Option Parsed → Result Parsed AsmWhy
 checked None = Err Syntax
 checked (Some parsed) = if is_wide parsed.statement then Err NumberTooWide else Ok parsed
 
--- the content of a line, or its fault of its own, which needs no other lines
+-- the content of a line, or the fault that it has of its own, without regard to other lines
 unfoldable pub read_line : Variant → List ℕ → Result Parsed AsmWhy
 read_line variant bytes = if bad_outside 0 bytes then Err BadByte else checked (line variant bytes)

@@ -4,7 +4,7 @@ use Rattle.yas_asm.specs.declared.fault.AsmWhy.{AsmWhy}
 use Rattle.yas_asm.specs.declared.fault.AsmWhy.TheVariants.{Memory}
 use Rattle.yas_asm.specs.declared.fault.AsmFault.{AsmFault}
 
--- it continues exactly if there is no fault, and otherwise reports that fault, or out of memory
+-- unless memory runs out, it continues exactly if there is no fault, and otherwise reports that fault
 abbrev pub StopsWith : {A : Type 0} → Result A AsmWhy → Option AsmWhy → Type 0
 StopsWith (Ok _) said = said ≡ None
 StopsWith (Err why) said = (why ≡ Memory) ⊎ (said ≡ Some why)

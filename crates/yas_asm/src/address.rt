@@ -72,7 +72,7 @@ pub fn place(variant: Variant, size: u64, address: u64, statement: &Statement) -
     if behind <= size { Some(behind) } else { None }
 }
 
-/// The address after a line; a line with a fault leaves it unchanged.
+/// The address after a line; a line with a fault of its own, or one that leads past the size, leaves it unchanged.
 #[tactic(auto, unfolding(crate::specs::Assembly::address_after))]
 pub fn address_after(
     variant: Variant,

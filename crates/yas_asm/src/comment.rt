@@ -46,7 +46,7 @@ fn is_good(byte: u8) -> bool
     is_blank(byte) || (0x21 <= byte && byte <= 0x7e)
 }
 
-/// As `comment_length`, in less time if no `*/` is known to follow.
+/// As `comment_length`, in less time if it is known that no `*/` follows.
 #[tactic(auto, unfolding(crate::specs::Comments::comment_length))]
 fn known_length(text: &[u8], closes: bool) -> usize
     requires { closes ≡ false → comments.close_length (drop 2 text.now) ≡ 0 }

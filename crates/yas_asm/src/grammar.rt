@@ -292,7 +292,7 @@ fn is_wide(statement: &Statement) -> bool
     }
 }
 
-/// The content of a line, or its fault of its own, which needs no other lines.
+/// The content of a line, or the fault that it has of its own, without regard to other lines.
 #[tactic(auto, unfolding(crate::specs::Grammar::read_line))]
 pub fn read_line(variant: Variant, bytes: &[u8]) -> Result<Parsed<'_>, AsmWhy>
     ensures value { result ≡ grammar.read_line variant bytes.now }

@@ -19,7 +19,7 @@ use arrayvec::ArrayVec;
 use std::alloc::{AllocError, Global};
 use y86_base::{Variant, first_line};
 
-/// The content of a well-formed line, or the fault of another.
+/// The content of a line, or the fault that it has of its own.
 type ParseResult<'a> = Result<Parsed<'a>, AsmWhy>;
 
 /// Defines the label of a line, if it has one.
