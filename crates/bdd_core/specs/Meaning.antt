@@ -14,7 +14,7 @@ IsDia s d = d.id < count s
 abbrev pub truth_of : Diagrams → Dia → List Bool → Bool
 truth_of s d v = dia_truth s d.id v
 
--- a truth has the same value at every valuation
+-- the truth of a diagram is b at every valuation
 abbrev pub Always : Diagrams → Dia → Bool → Type 0
 Always s d b = (v : List Bool) → length v ≡ s.vars → truth_of s d v ≡ b
 

@@ -35,7 +35,7 @@ Inside n (Present p) = Unit {0}
 Inside n (Vacant i) = i < n
 Inside n Full = Unit {0}
 
--- a second search, used if the first has met no free place
+-- the outcome of a first search, begun at place home, or of a second if the first found neither node nor free place
 abbrev pub joined : ℕ → Lookup → Lookup → Lookup
 joined home (Present p) second = Present p
 joined home (Vacant i) second = Vacant (home + i)

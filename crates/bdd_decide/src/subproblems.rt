@@ -131,7 +131,7 @@ fn has_bit(to: &[Replacement]) -> bool {
     false
 }
 
-/// The same gates, in a copy in which the variables that have one value wherever one of the gates is false are replaced
+/// The same gates, in a copy in which variables seen to have one value wherever one of the gates is false are replaced
 /// by it.
 #[tactic(auto, using(crate::proofs::Forced::gates_inside))]
 fn with_forced(alloc: Global, part: Subproblem) -> Result<Subproblem, Memory>

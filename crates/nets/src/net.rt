@@ -70,7 +70,7 @@ impl Net {
         self.gates.len() as u64
     }
 
-    /// A gate by its number. It reads only earlier gates, and these determine its truth.
+    /// A gate by its number. It reads only earlier gates, and its truth comes from theirs and from the valuation.
     pub fn gate(&self, i: u64) -> Gate
         requires { i < length self.now.gates }
         ensures is { slice_get self.now.gates i ≡ Some result }

@@ -84,7 +84,7 @@ pub fn register_controls_at(scope: &Scope<'_>) -> RegisterControlsNow
     }
 }
 
-/// What an obligation requires of each signal; an obligation on motion requires nothing of a single one.
+/// What an obligation requires of each signal; one from 23 on requires nothing of a single signal.
 #[tactic(auto, using(crate::proofs::OneWrong::none_behind))]
 fn requirements_at(alloc: Global, n: &Now<'_>, number: u32) -> Result<Vec<Requirement>, Memory>
     requires { 1 ≤ number }

@@ -203,7 +203,7 @@ fn drained(b: &mut NetBuilder, v: &FlowGates) -> Result<u64, Memory>
     b.and(e, last_two)
 }
 
-/// If E, M and W are empty, a good instruction leaves D.
+/// If E, M and W are empty, a good instruction in D leaves.
 pub fn obligation_26(
     b: &mut NetBuilder,
     k: &RegisterControlsGates,

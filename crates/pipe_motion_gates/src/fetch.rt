@@ -270,7 +270,7 @@ fn right_after_m(
     b.or(jumped, returned)
 }
 
-/// f_pc is where the youngest good instruction goes, if its stage can decide that.
+/// The youngest good instruction is a jump or ret whose stage has the address where it goes, and f_pc is that one.
 fn right_pc(
     b: &mut NetBuilder,
     ctl: &Controls,

@@ -208,7 +208,7 @@ module _ (v : Variant) (s : Settings) (c : Fields) (y : Flow) (mv : RegisterCont
   abbrev pub right_after_w : Bool
   right_after_w = y.w.ret && picks_leaf cv signal.f_pc (Name signal.W_valM)
 
-  -- f_pc is where the youngest good instruction goes, if its stage can decide that
+  -- the youngest good instruction is a jump or ret whose stage has the address where it goes, and f_pc is that address
   abbrev pub right_pc : Bool
   right_pc = of_youngest y false right_after_e right_after_m right_after_w
 

@@ -82,7 +82,7 @@ fetched_jump v c = not (set c.f.error) && next_is_branch (row v c.f.icode).next
 abbrev pub back_matches_in_f : Variant → List Atom → Fields → Assignment → Bool
 back_matches_in_f v atoms c α = back_matches atoms α signal.f_valC signal.f_valP (fetched_jump v c) c.f.back
 
--- a jump's valC < valP has the same truth in all stages that have both words; with tv also in M
+-- in each stage that has a jump's valC and valP, the atom valC < valP is that jump's back bit; with tv also in M
 abbrev pub back_matches_all : Variant → Bool → List Atom → Fields → Flow → Assignment → Bool
 back_matches_all v tv atoms c y α =
     back_matches_in_f v atoms c α

@@ -17,7 +17,7 @@ pub fn law_of_undemanded()
     ensures { (v : Variant) (s : Settings) (atoms : List Atom) (i : ℕ) (c : Fields) (α : Assignment) (cv : ℕ → Leaf) → is_demanded v s atoms i c α ≡ false → obligation v s atoms i c α cv ≡ true }
 {}
 
-/// In a legal flow, only the youngest good instruction can stop or be unresolved (a jump or a ret), and no good
+/// In a legal flow, only the youngest good instruction stops or is a missed jump in E or a ret in E or M, and no good
 /// instruction follows a wrong one.
 #[tactic(auto, using(crate::proofs::Older::older_goes_on, crate::proofs::Older::older_has_turned, crate::proofs::Older::none_behind_wrong))]
 pub fn law_of_legal_flows()

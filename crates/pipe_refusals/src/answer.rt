@@ -104,7 +104,7 @@ fn refute_next(
     }
 }
 
-/// Refutes the obligations after the first false one.
+/// Refutes the false obligations after the first one.
 fn refute_others(
     alloc: Global,
     file: &PipeFile<'_>,
