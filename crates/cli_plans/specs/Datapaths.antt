@@ -17,8 +17,8 @@ abbrev pub rows_of : Datapath → List Row
 rows_of Seq = seq_rows
 rows_of Plus = plus_rows
 
--- after k cycles on an image the machine of the design is at this end, with these records of the cycles; for SEQ+ the
--- end includes the PC, which it computes
+-- after k cycles on an image the machine of the design is at this end, with these records of the cycles; SEQ+ computes
+-- the PC of its end
 abbrev pub IsMachineRun : Datapath → Variant → List Term → List ℕ → ℕ → Machine → List Rec → Type 0
 IsMachineRun Seq v terms image k end records = SeqRun v terms image k end records
 IsMachineRun Plus v terms image k end records = (t : PlusState) × PlusRun v terms image k t records × PlusEndIs v terms t end

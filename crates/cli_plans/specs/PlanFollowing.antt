@@ -8,7 +8,7 @@ use Rattle.cli_plans.specs.declared.stop_reason.StopReason.TheVariants.{Write, R
 use Rattle.cli_plans.specs.Plan.{Answer, Plan, value_in, answer_in, reads}
 use Rattle.cli_plans.specs.Stops.{answer_at, status_of}
 
--- the files: what is known of their contents, and for each name the number of failed reads
+-- the files: what is known of their contents, and for each name a count of failed reads
 pub record FilesState : Type 0 where
   pub told : List ℕ → Option (Option (List ℕ))
   pub faults : List ℕ → ℕ

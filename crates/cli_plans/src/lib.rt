@@ -1,5 +1,5 @@
-//! Plans: which files a call reads and which answers it may give, proofs that its command followed the plan, and the
-//! stages that commands share.
+//! Plans: which files a call reads and which answers it may give, what it means that its command followed the plan, and
+//! the stages that commands share.
 #![tactic(auto)]
 
 mod calls;

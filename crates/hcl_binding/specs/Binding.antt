@@ -97,9 +97,9 @@ declared (Some row) kind name = if is_of kind row.class then Ok tt else Err (fau
 abbrev pub of_kind : List Row → Row → Kind → List ℕ → Term → Result Term BindFault
 of_kind rows row kind name t = if is_of kind row.class && has_class rows row.class t then Ok t else Err (fault why.KindMismatch name)
 
--- A definition of a name, as its term or its fault. It is Unknown if the name isn't in the table; it Redefines a
--- constant, state or hardware; it is Twice if the name was defined before. The fault of its body is its first Unknown
--- name, or KindMismatch.
+-- A definition of a name, as its term or its fault; the first that applies. It is Unknown if the name isn't in the
+-- table; it Redefines a constant, state or hardware; it is Twice if the name was defined before; else the fault is the
+-- first Unknown name in its body, or KindMismatch.
 abbrev pub defined_as : List Row → Bool → Option Row → Kind → List ℕ → Expr → Result Term BindFault
 defined_as rows before None kind name body = Err (fault why.Unknown name)
 defined_as rows before (Some row) kind name body =

@@ -63,7 +63,7 @@ IsBindFault rows items why.Twice name =
     (items ≡ front ++ item.Def kind name body ∷ behind) × (is_some (definition front name) ≡ true)
 -- a row that a file has to define has no definition
 IsBindFault rows items why.Missing name = ((row : Row) × IsIn row (defined rows) × (row.name ≡ name)) × (definition items name ≡ None)
--- an item has another kind than the row of the name
+-- an item, or the body of a definition, has another kind than the row of the name
 IsBindFault rows items why.KindMismatch name = (row : Row) × (row_named rows name ≡ Some row) × ((i : Item) × IsIn i items × Mismatches rows name row i)
 -- the name is defined, but a file may not define its row
 IsBindFault rows items why.Redefines name = ((row : Row) × (row_named rows name ≡ Some row) × (is_defined row.role ≡ false)) × (is_some (definition items name) ≡ true)

@@ -13,7 +13,8 @@ ghost use Rattle.hcl_types.specs.Tables.{IsSound};
 /// - `Twice`: the name is defined after a first definition.
 /// - `Missing`: a file has to define the row of this name, and has no definition of it.
 /// - `Redefines`: a file may not define the row of this name.
-/// - `KindMismatch`: some item declares or defines the name with another kind than its row's.
+/// - `KindMismatch`: some item declares or defines the name with another kind than its row's, or defines it by a body
+///   of the other kind.
 pub fn law_of_faults()
     ensures { (rows : List Row) (items : List Item) (e : BindFault) → IsSound rows → bound rows items ≡ Err e → IsBindFault rows items e.why e.name }
 {}

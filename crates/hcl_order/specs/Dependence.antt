@@ -12,7 +12,8 @@ IsDependencePath needs a (c ∷ between) b = IsIn c (needs a) × IsDependencePat
 abbrev pub Depends : (ℕ → List ℕ) → ℕ → ℕ → Type 0
 Depends needs a b = (between : List ℕ) × IsDependencePath needs a between b
 
--- table order of lists: at the first position where they differ, this one has the earlier row
+-- the first list is no later than the second by table order: at the first position where they differ, the first one has
+-- the earlier row
 abbrev pub IsNoLater : List ℕ → List ℕ → Type 0
 IsNoLater [] ys = Unit {0}
 IsNoLater (x ∷ xs) [] = ⊥

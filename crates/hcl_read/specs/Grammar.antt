@@ -1,5 +1,6 @@
--- The grammar of HCL (CS:APP 3e, section 4.2, and the HCL guide), as a relation for each nonterminal: the tokens before
--- it, the tree that is read, and the tokens after it. Each `{ .. }` of the grammar has a relation of its own, the tail.
+-- The grammar of HCL (CS:APP 3e, section 4.2, and the HCL guide), as a relation for each nonterminal: the tokens from
+-- its first one on, the tree that is read, and the tokens after it. Each `{ .. }` of the grammar has a relation of its
+-- own, the tail.
 --
 --     file = { item }
 --     item = "quote" text | ("wordsig" | "intsig" | "boolsig") name text | ("word" | "int" | "bool") name "=" expr ";"

@@ -81,7 +81,8 @@ abbrev pub front : List ℕ → Option (Token × List ℕ)
 front [] = None
 front (byte ∷ bytes) = Some (token byte bytes)
 
--- at most `most` tokens of a text without a gap in front, each with the bytes from its first on
+-- the first tokens, at most `most`, of a text that has no blank, line feed or comment in front, each with the bytes
+-- from its first on
 unfoldable pub items_in : ℕ → List ℕ → List (Token × List ℕ)
 items_in zero text = []
 items_in (suc most) [] = []

@@ -21,7 +21,7 @@ pub enum OperandSide {
     Right(CmpOp, Boxed<Expr>),
 }
 
-/// An open bracket, with what was read before it.
+/// An open bracket, with what was read before it and, so far, inside it.
 #[derive(Drop)]
 pub enum Frame {
     /// `(`
@@ -35,7 +35,7 @@ pub enum Frame {
 }
 
 impl Frame {
-    /// How many `!`s precede the operand that the bracket begins.
+    /// How many `!`s precede the operand that contains the bracket.
     pub fn nots(&self) -> u64
         ensures { result ≡ (level_behind self.now).nots }
     {

@@ -58,7 +58,7 @@ pub record ToldAcceptedSeq (which : Datapath) (v : Variant) (told : Option (Opti
   pub file : HasAcceptedSeq which v told
   pub line : Appended before.taken after.taken (codes "yes\n")
 
--- An accepted file, and a certificate of its design at its settings was written on standard output.
+-- A file was accepted, and a certificate of its design at its settings was written on standard output.
 pub record WroteCertificate (v : Variant) (told : Option (Option (List ℕ))) (before after : SinkState) : Type 0 where
   pub file : HasAccepted v told
   pub text : List ℕ
@@ -86,8 +86,8 @@ pub record PrintsTheRun (v : Variant) (image : List ℕ) (trace : Bool) (p : Pip
       report image (end_of p) (length p.records) ≡ report image (run v image (length p.records)) (length p.records)
 
 -- A file was accepted, and an image ran on it: after the `yes` come the trace, the counts and the report. They agree
--- with the run of instructions if none of the first instructions, one for each cycle, fetches a byte that one of the
--- three before it stored.
+-- with the run of instructions if none of the first instructions, as many as there were cycles, fetches a byte that one
+-- of the three before it stored.
 pub record CheckedRunIsRight (v : Variant) (size limit : ℕ) (trace : Bool) (hcl object : Option (Option (List ℕ))) (before after : SinkState) (status : ℕ) : Type 0 where
   pub file : HasAccepted v hcl
   pub bytes : List ℕ

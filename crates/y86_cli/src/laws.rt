@@ -51,11 +51,12 @@ pub fn law_of_plans()
 ///   byte that one of the three before them stored, its pipeline retires the instructions of that run, one after
 ///   another, and stops as it does. The output is the line of a `yes` or, with `--cert`, a certificate of the design.
 /// - If a call of `recheck` ends with 0, the second file is a certificate of the first, the pipeline of its design does
-///   the same, and the line with the certificate's settings was written. With 4 the same holds, and a part of the line
-///   was written. `recheck` never ends with 1.
+///   the same, and the line with the certificate's settings was written. With 4 the same holds, but only a proper
+///   prefix of the line was written. `recheck` never ends with 1.
 /// - If a call of `psim` with `--checked` ends with 0 or 1, the output is a `no`; or it is a `yes` for an accepted
-///   file, and what follows it agrees with the run of instructions: the trace, the registers, and, if the pipeline
-///   stopped, the whole report.
+///   file. Then what follows it (the trace, the registers, and, if the pipeline stopped, the whole report) agrees with
+///   the run of instructions, if none of the first instructions, as many as there were cycles, fetches a byte that one
+///   of the three before it stored.
 pub fn law_of_accepted_files()
     ensures check_seq { (words : List (List ℕ)) (name : List ℕ) (v : Variant) (files_before files_after : FilesState) (out_before out_after err_before err_after : SinkState) →
         form_of words ≡ Some (check_seq name v) → CallContract (form_of words) files_before files_after out_before out_after err_before err_after 0 →

@@ -61,7 +61,7 @@ FallsThrough v m =
     IfSome (retired v m)
     (λ r. r.stat ≡ Aok → (row v r.icode).next ≡ Fall → (advance v m).pc ≡ (m.pc + (row v r.icode).length) % 2 ^ 64)
 
--- a record determines the whole step from one machine to the next
+-- a record determines the step from one machine to the next, except the next PC
 pub record IsRecordOfStep (m after : Machine) (r : Rec) : Type 0 where
   pub pc : r.pc ≡ m.pc
   pub stat : after.stat ≡ r.stat

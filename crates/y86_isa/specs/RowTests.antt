@@ -134,7 +134,7 @@ select_a_is_val_a r = stores_val_a r.memory || address_is_val_a r.memory
 
 -- ---- the columns of one row
 
--- valE is used only if the ALU has operands, and it has both or none
+-- valE is used only if the ALU has a first operand; if it has a first operand, it has a second one
 pub record OperandsAgree (r : Row) : Type 0 where
   pub destination : is_dash r.dst_e ≡ false → has_operand_a r.alu_a ≡ true
   pub flags : r.sets_flags ≡ true → has_operand_a r.alu_a ≡ true

@@ -50,7 +50,7 @@ pub fn law_of_work()
 /// What one step may change: at most one register other than `%rsp`; in memory, only the 8 bytes of the record's store;
 /// the flags, only if the row sets them. The PC moves to the address after an instruction that falls through by its
 /// row, unless the instruction ends with another status than AOK. A machine that has stopped doesn't change. The record
-/// determines the whole step.
+/// determines the step, except the next PC.
 pub fn law_of_steps()
     ensures registers { (v : Variant) (m : Machine) → ChangesOneRegister m.regs (advance v m).regs }
     ensures memory { (v : Variant) (m : Machine) (address : ℕ) → (IsStoredBy (retired v m) address → ⊥) →
@@ -84,8 +84,9 @@ pub fn law_of_runs()
     ensures stopped { (v : Variant) (m : Machine) (n : ℕ) → m.stat ≢ Aok → run_from v m n ≡ m }
 {}
 
-/// The records of no step, of one more step, and of a machine that has stopped. The records of n steps are at
-/// most n, the i-th is that of the i-th machine of the run, and they are fewer only if the run has stopped.
+/// The records of no step, of one more step, and of a machine that has stopped. The records of n steps are at most n,
+/// the i-th is that of the i-th machine of the run, and they are fewer only if the run has stopped after as many steps
+/// as there are records.
 pub fn law_of_records()
     ensures no_step { (v : Variant) (m : Machine) → records_from v m 0 ≡ [] }
     ensures one_more { (v : Variant) (m : Machine) (n : ℕ) →
@@ -100,8 +101,8 @@ pub fn law_of_records()
         (run_from v m (length (records_from v m n))).stat ≢ Aok }
 {}
 
-/// A run keeps an image an image, of the same size. An image that is pure for some steps is pure for fewer. The bytes
-/// that an instruction fetches were the same at each step before.
+/// A run keeps an image an image, of the same size. An image that is pure for some steps is pure for fewer. In the run
+/// of a pure image, the bytes that an instruction fetches were the same at each step before.
 pub fn law_of_images()
     ensures image { (v : Variant) (m : Machine) (n : ℕ) → IsImage m.mem → IsImage (run_from v m n).mem }
     ensures size { (v : Variant) (m : Machine) (n : ℕ) → length (run_from v m n).mem ≡ length m.mem }

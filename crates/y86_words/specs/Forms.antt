@@ -106,7 +106,7 @@ pub data Command : Type 0 where
   check_seq : List ℕ → Variant → Command
   -- the same for SEQ+
   check_plus : List ℕ → Variant → Command
-  -- the same for PIPE, and for the programs that don't store over one of the next three instructions
+  -- the same for PIPE, but only for the programs that don't store over one of the next three instructions
   check_pipe : List ℕ → Variant → Command
   -- the same, with a certificate instead of the line of a `yes`
   certify_pipe : List ℕ → Variant → Command

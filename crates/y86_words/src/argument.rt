@@ -72,7 +72,8 @@ fn added<'a>(found: FoundArguments<'a>, argument: Argument<'a>) -> Option<FoundA
     }
 }
 
-/// The arguments collected from words, if all words can be read and no option is given twice.
+/// The arguments collected from words, if all words can be read, at most three fill places, and no option is given
+/// twice.
 pub fn found_in<'a>(words: &'a [String]) -> Option<FoundArguments<'a>>
     ensures { option_map filled_in result
         ≡ option_and_then (spec.all_added (Some spec.nothing_filled)) (spec.arguments (map string_bytes words.now)) }

@@ -17,8 +17,8 @@ pub fn law_of_purity()
 
 /// A program may write its own code, as long as no instruction fetches a byte that one of the three before it stored.
 /// This holds exactly if each store is apart from the bytes of each of the three instructions after it. It holds if the
-/// program fetches nothing that it stored. The bytes that an instruction fetches were the same up to three steps
-/// before.
+/// program fetches nothing that it stored. In such a program, the bytes that an instruction fetches were the same up to
+/// three steps before.
 pub fn law_of_near_purity()
     ensures pure { (v : Variant) (image : List ℕ) (n : ℕ) → Pure v image n → NearPure v image n }
     ensures fewer { (v : Variant) (image : List ℕ) (n k : ℕ) → k ≤ n → NearPure v image n → NearPure v image k }
