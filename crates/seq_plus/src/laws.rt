@@ -36,9 +36,9 @@ pub fn law_of_runs()
         PlusRun v terms image k t rs → PlusRun v terms image k u xs → (t ≡ u) × (rs ≡ xs) }
 {}
 
-/// Under any HCL file the record of a cycle reports everything that the cycle changed: the memory by its store alone,
-/// the registers by its two destinations, dstM last. Its address, icode and ifun are the values of the signals `pc`,
-/// `icode` and `ifun`.
+/// Under any HCL file the record of a cycle reports everything that the cycle changed except what the next PC is
+/// computed from: the memory by its store alone, the registers by its two destinations, dstM last. Its address, icode
+/// and ifun are the values of the signals `pc`, `icode` and `ifun`.
 pub fn law_of_plus_cycles()
     ensures { (v : Variant) (terms : List Term) (s : PlusState) (r : Option Rec) (t : PlusState) → IsPlusCycle v terms s r t →
         IfSome r (λ x. (f : ℕ → ℕ) × PlusSolves v terms s f × TellsCycle s t f x) }
