@@ -1,4 +1,4 @@
-"""Proves the crates that programs need, and builds the programs."""
+"""Proves the crates that programs need, and builds the programs. As a script it prints how many jobs the prover can do at once."""
 import os
 import re
 import shutil
@@ -86,7 +86,8 @@ class Proof:
         self.log, self.number, self.told = log, number, []
         with open(log, "wb") as to:
             how = {"cwd": room, "stdin": subprocess.DEVNULL, "stdout": to, "stderr": subprocess.STDOUT, "start_new_session": True}
-            self.command = subprocess.Popen(["rt", "ci"], **how)
+            # (by its own estimate of memory, rt leaves processors idle)
+            self.command = subprocess.Popen(["rt", "ci"], env={**os.environ, "RT_JOBS": str(jobs_at_once())}, **how)
         self.start = self.last = time.monotonic()
 
     def since(self):
@@ -208,3 +209,7 @@ def build(here, programs):
         tell(str(why))
         return 1
     return 0
+
+
+if __name__ == "__main__":
+    print(jobs_at_once())
