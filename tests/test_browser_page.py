@@ -487,28 +487,25 @@ def test_other_text(row, held):
         same(held.do(script % (json.dumps(REFUSED_TEXT), json.dumps(STD))), [])
 
 
-def test_late_verdict(held):
-    """A program that comes out right is told from its processor's verdict, also where that comes later."""
-    held.choose("yss", "add.ys")
-    held.do("Object.assign(holds, { round: 1, at: 0, kept: [] }), 0")
-    held.do(f"(() => {{ const it = one('#hcl textarea'); it.value = {json.dumps(REFUSED_TEXT)}; it.dispatchEvent(new Event('input', {{ bubbles: true }})); }})()")
+def answered_late(held, text, number):
+    """Writes a text in HCL, and lets the answer of the run through before that of the check. `number` counts these calls from 1."""
+    held.do(f"Object.assign(holds, {{ round: {number}, at: 0, kept: [] }}), 0")
+    held.do(f"(() => {{ const it = one('#hcl textarea'); it.value = {json.dumps(text)}; it.dispatchEvent(new Event('input', {{ bubbles: true }})); }})()")
     held.until("holds.kept.length === 2")
     held.do("holds.at = -1, holds.kept.find(([it]) => !/^(yes|no)/.test(it.out))[1](), 0")
     held.until("!el('outcome').classList.contains('stale')")
     assert "Another may not." not in held.text("outcome")
     held.do("holds.kept.find(([it]) => /^(yes|no)/.test(it.out))[1](), 0")
     held.settle()
+
+
+def test_late_verdict(held):
+    """A program that comes out right is told from its processor's verdict, also where that comes later, and not from the verdict of the text before."""
+    held.choose("yss", "add.ys")
+    answered_late(held, REFUSED_TEXT, 1)
     said(held, "verdict", "no: O10")
     said(held, "outcome", "comes out right", "Another may not.")
-    # (and not from the verdict of the text before)
-    held.do("Object.assign(holds, { round: 2, at: 0, kept: [] }), 0")
-    held.do(f"(() => {{ const it = one('#hcl textarea'); it.value = {json.dumps(STD)}; it.dispatchEvent(new Event('input', {{ bubbles: true }})); }})()")
-    held.until("holds.kept.length === 2")
-    held.do("holds.at = -1, holds.kept.find(([it]) => !/^(yes|no)/.test(it.out))[1](), 0")
-    held.until("!el('outcome').classList.contains('stale')")
-    assert "Another may not." not in held.text("outcome")
-    held.do("holds.kept.find(([it]) => /^(yes|no)/.test(it.out))[1](), 0")
-    held.settle()
+    answered_late(held, STD, 2)
     said(held, "verdict", "Right for every program")
 
 
