@@ -20,7 +20,7 @@ os.execvp(sys.argv[3], sys.argv[3:])
 NAMES = ("chromium", "chromium-browser", "google-chrome", "google-chrome-stable")
 
 
-CODES = {"ArrowLeft": 37, "ArrowRight": 39, "ArrowUp": 38, "ArrowDown": 40, "Home": 36, "End": 35, "Tab": 9, "Enter": 13, "Escape": 27, " ": 32, "Backspace": 8, "PageUp": 33}
+CODES = {"ArrowLeft": 37, "ArrowRight": 39, "ArrowUp": 38, "ArrowDown": 40, "Home": 36, "End": 35, "Tab": 9, "Enter": 13, "Escape": 27, " ": 32, "Backspace": 8, "PageUp": 33, "PageDown": 34}
 CTRL = 2
 # What a browser may take to begin or to answer, since other work may have the processors.
 MOST_SECONDS = 300
