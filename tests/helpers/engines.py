@@ -20,7 +20,7 @@ from helpers.browser import MOST_SECONDS, Broken, Browser
 # What WebDriver calls keys that aren't letters.
 KEYS = {
     "ArrowLeft": "\ue012", "ArrowUp": "\ue013", "ArrowRight": "\ue014", "ArrowDown": "\ue015", "Home": "\ue011", "End": "\ue010", "Tab": "\ue004",
-    "Enter": "\ue007", "\n": "\ue007", "Escape": "\ue00c", "Backspace": "\ue003", "PageUp": "\ue00e",
+    "Enter": "\ue007", "\n": "\ue007", "Escape": "\ue00c", "Backspace": "\ue003", "PageUp": "\ue00e", "PageDown": "\ue00f",
 }
 CTRL = "\ue009"
 # The screen of a browser that needs one.
