@@ -1,0 +1,244 @@
+"""What follows from the tables of signals, fields and obligations: rows by number, places of bits, lengths.
+
+`python3 tests/helpers/tables.py` writes it into the sources, and a test compares it. So a new row of a table changes no number by hand.
+Each side has its own tables: what a definition (`.antt`) needs is taken from definitions, and what code (`.rt`) needs from code. The bits of a field are
+the exception: code has them from the definitions.
+"""
+import re
+import sys
+
+if __name__ == "__main__":
+    sys.path.insert(0, __file__.rpartition("/tests/")[0] + "/tests")
+
+from helpers.paths import TOP
+
+SIGNALS, PLUS, FIELDS = "crates/dp_signals", "crates/seq_plus", "crates/pipe_fields"
+STAGES = {"f": "Fetch", "d": "Decode", "e": "Execute", "m": "Memory", "w": "Write"}
+GROUPS = ("state", "hardware", "defined")
+
+
+def read(path):
+    with open(f"{TOP}/{path}", encoding="utf-8") as it:
+        return it.read()
+
+
+def found(pattern, text):
+    """The first group of the one match of a pattern."""
+    places = re.findall(pattern, text, re.M | re.S)
+    assert len(places) == 1, f"{pattern} is there {len(places)} times"
+    return places[0]
+
+
+def put(pattern, new, text):
+    """The text with the one match of a pattern replaced."""
+    text, times = re.subn(pattern, lambda _: new, text, flags=re.M | re.S)
+    assert times == 1, f"{pattern} is there {times} times"
+    return text
+
+
+def snake(name):
+    """A name of the book as code writes it: `valC` is `val_C`."""
+    return re.sub(r"(?<=[a-z])(?=[A-Z])", "_", name)
+
+
+# ---- the signals
+
+
+def body(text, name):
+    """The body of a definition without arguments or with those before `=`."""
+    return found(rf"^{name}(?: \w+)* =\n?(.*?)(?=\n\n|\n*\Z)", text)
+
+
+def in_definition(text, name, rest=()):
+    """The names of a list of signals; `rest` has those of `control_rows`."""
+    names = []
+    for word, signal in re.findall(r'(control_rows)|codes "(\w+)"', body(text, name)):
+        names += rest if word else [signal]
+    return names
+
+
+def in_code(text, name):
+    """The names of a table of rows in code."""
+    return re.findall(r'b"(\w+)"', found(rf"^static {name}: &\[TableRow\] =(.*?);$", text))
+
+
+def lines_in_macro(text, name):
+    return re.findall(r'b"(\w+)"', found(rf"macro_rules! {name} \{{(.*?)^\}}", text))
+
+
+def defined_in_code(text, control):
+    """The names that a file for a sequential datapath defines: those before the instruction's control, it, and those after it."""
+    before, after = re.search(r"sequential_table\(alloc, STATE, HARDWARE, (&\[\]|\w+), (&\[\]|\w+)\)", text).groups()
+    return [*(in_code(text, before) if before != "&[]" else []), *control, *(in_code(text, after) if after != "&[]" else [])]
+
+
+def rows_defined(text, groups):
+    """A file of rows by their number, as definitions."""
+    parts = [text.partition("-- where the rows of the state")[0]]
+    parts.append("-- where the rows of the state, of hardware and of the file's definitions begin, and the number of all rows\n")
+    start = "constant_count"
+    for name, before in zip((*GROUPS, "count"), (None, *GROUPS)):
+        parts.append(f"abbrev pub {name} : ℕ\n{name} = {f'{before} + {len(groups[before])}' if before else start}\n\n")
+    for group in GROUPS:
+        parts.append(found(rf"^(-- {group}\b[^\n]*\n)", text))
+        parts += [f"abbrev pub {name} : ℕ\n{name} = {group} + {k}\n\n" for k, name in enumerate(groups[group])]
+    *_, last = re.finditer(r"^\w+ = \w+ \+ \d+\n", text, re.M)
+    return "".join(parts).rstrip("\n") + "\n" + text[last.end():]
+
+
+def rows_coded(text, groups, named=GROUPS, held=""):
+    """A file of rows by their number, as code, with constants for the signals of the groups `named`; those of the state have a prefix."""
+    parts = [text.partition("/// Where the rows of the state")[0]]
+    parts.append("/// Where the rows of the state begin, then those of hardware, and then those of defined signals.\n")
+    for name, before in zip((*GROUPS, "count"), (None, *GROUPS)):
+        value = f"{before.upper()} + {len(groups[before])}" if before else "CONSTANT_COUNT"
+        parts.append("/// The number of rows in the table.\n" if name == "count" else "")
+        parts.append(f"pub const {name.upper()}: NameId = {value};\n\n")
+    for group in named:
+        prefix = held if group == "state" else ""
+        parts += [f"pub const {prefix}{snake(name).upper()}: NameId = {group.upper()} + {k};\n\n" for k, name in enumerate(groups[group])]
+    *_, last = re.finditer(r"^pub const \w+: NameId = \w+ \+ \d+;\n", text, re.M)
+    return "".join(parts).rstrip("\n") + "\n" + text[last.end():]
+
+
+def numbered(groups, place):
+    """For each signal of a sequential datapath its field and its row from a first one on, written by `place`."""
+    return "".join(place(snake(name).lower(), group, k) for group in groups for k, name in enumerate(groups[group]))
+
+
+def of_signals():
+    """The files that follow from the tables of signals."""
+    pipe, seq, plus, shared = (read(f"{it}.antt") for it in (
+        f"{SIGNALS}/specs/PipeTable", f"{SIGNALS}/specs/SeqTable", f"{PLUS}/specs/PlusTable", f"{SIGNALS}/specs/SequentialTables"))
+    control, hardware = in_definition(shared, "control_rows"), in_definition(shared, "hardware_rows")
+    tables = {
+        f"{SIGNALS}/specs/PipeNames.antt": {group: in_definition(pipe, f"pipe_{group}") for group in GROUPS},
+        f"{SIGNALS}/specs/SeqNames.antt": {"state": in_definition(seq, "seq_state"), "hardware": hardware, "defined": in_definition(seq, "seq_defined", control)},
+        f"{PLUS}/specs/PlusNames.antt": {"state": in_definition(plus, "plus_state"), "hardware": hardware, "defined": in_definition(plus, "plus_defined", control)},
+    }
+    made = {path: rows_defined(read(path), groups) for path, groups in tables.items()}
+    path = f"{SIGNALS}/specs/SequentialRows.antt"
+    rows = numbered({"hardware": hardware, "control": control}, lambda name, first, k: f"      {name} = {first} + {k};\n")
+    made[path] = put(r"(?<=      pc = pc;\n).*?(?=    \}\n)", rows, read(path))
+    path = f"{SIGNALS}/specs/Tables.antt"
+    count = len(re.findall("codes", body(read(path), "constant_rows")))
+    made[path] = put(r"^constant_count = \d+$", f"constant_count = {count}", read(path))
+    return made
+
+
+def of_signals_in_code():
+    """The same of the code."""
+    pipe, seq, plus, shared = (read(f"{it}.rt") for it in (
+        f"{SIGNALS}/src/pipe_signals", f"{SIGNALS}/src/seq_signals", f"{PLUS}/src/table", f"{SIGNALS}/src/sequential_tables"))
+    control, hardware = in_code(shared, "CONTROL"), lines_in_macro(shared, "hardware_lines")
+    of_pipe = {group: in_code(pipe, group.upper()) for group in GROUPS}
+    of_seq, of_plus = ({"state": in_code(it, "STATE"), "hardware": hardware, "defined": defined_in_code(it, control)} for it in (seq, plus))
+    pipe_row, seq_row, plus_row, rows = f"{SIGNALS}/src/pipe_row.rt", f"{SIGNALS}/src/seq_row.rt", f"{PLUS}/src/row.rt", f"{SIGNALS}/src/sequential_rows.rt"
+    made = {
+        pipe_row: rows_coded(read(pipe_row), of_pipe, held="HELD_"),
+        seq_row: rows_coded(read(seq_row), of_seq),
+        plus_row: rows_coded(read(plus_row), of_plus, named=("state",)),
+    }
+    both = {"hardware": hardware, "control": control}
+    text = put(r"(?<=    pub pc: NameId,\n).*?(?=^\})", numbered(both, lambda name, *_: f"    pub {name}: NameId,\n"), read(rows))
+    made[rows] = put(r"(?<=            pc: \$pc,\n).*?(?=        \}\n)", numbered(both, lambda name, first, k: f"            {name}: ${first} + {k},\n"), text)
+    path = f"{SIGNALS}/src/tables.rt"
+    made[path] = put(r"^pub const CONSTANT_COUNT: NameId = \d+;$", f"pub const CONSTANT_COUNT: NameId = {len(in_code(read(path), 'CONSTANTS'))};", read(path))
+    return made
+
+
+# ---- the fields of PIPE
+
+
+def field_lists(text):
+    """For the kinds and for each stage its fields: stage, name and number of bits."""
+    row = r'(?:hidden|read_by) \(codes "\w+"\) (\d+) (?:signal\.\w+ )?\(λ c\. c\.(\w)\.(\w+)\)'
+    names = ("kind", *(it.lower() for it in STAGES.values()))
+    return {name: [(stage, field, int(bits)) for bits, stage, field in re.findall(row, body(text, f"{name}_fields"))] for name in names}
+
+
+def layout(text):
+    """The definitions of lines of fields, how they are read from numbers, and the number of bits."""
+    lists = field_lists(text)
+    with_kind = {stage for stage, _, _ in lists["kind"]}
+    for stage, line in STAGES.items():
+        names = [field for _, field, _ in lists[line.lower()]]
+        kind = ["kind"] if stage in with_kind else []
+        text = put(rf"(?<=^pub record {line}Line : Type 0 where\n).*?(?=^\n)", "".join(f"  pub {it} : ℕ\n" for it in [*kind, *names]), text)
+        rows = ["kind = kind"] if kind else []
+        rows += [f"{it} = get_or xs {f'(at + {k})' if k else 'at'} 0" for k, it in enumerate(names)]
+        text = put(rf"(?<=^{line.lower()}_by {'kind ' if kind else ''}xs at =\n    record \{{\n).*?(?=^    \}}\n)", "".join(f"      {it};\n" for it in rows), text)
+    return put(r"^bit_count = \d+$", f"bit_count = {sum(bits for fields in lists.values() for _, _, bits in fields)}", text)
+
+
+def places(text, lists):
+    """The place of each field among the bits."""
+    first = sum(bits for _, _, bits in lists["kind"])
+    starts, rows, before = [], [], ""
+    for stage, line in STAGES.items():
+        fields, at = lists[line.lower()], 0
+        starts.append(f"const {stage.upper()}: u32 = {before + ' + ' if before else ''}{first};\n\n")
+        for _, field, bits in fields:
+            rows.append(f"pub const {stage.upper()}_{field.upper()}: BitRange = place!({stage.upper()} + {at}, {bits});\n\n")
+            at += bits
+        before, first = stage.upper(), at
+    kinds, at = [], 0
+    for stage, field, bits in lists["kind"]:
+        kinds.append(f"pub const {stage.upper()}_{field.upper()}: BitRange = place!({at}, {bits});\n\n")
+        at += bits
+    text = put(r"^const F: u32 = .*?(?=^/// The number of fields that are register)", "".join([*starts, *kinds, *rows]), text)
+    registers = len(re.findall(r"\w+", found(r"^pub const REGISTERS: [^=]*= \[(.*?)\];", text)))
+    text = put(r"^pub const REGISTER_COUNT: usize = \d+;$", f"pub const REGISTER_COUNT: usize = {registers};", text)
+    return put(r"^pub const BIT_COUNT: u32 = \w+ \+ \d+;$", f"pub const BIT_COUNT: u32 = {before} + {first};", text)
+
+
+def coded_fields(text):
+    """The rows of the table of fields in code: the stage, whether it is a kind, and whether it is a signal."""
+    rows = re.findall(r'^ +([A-Z])_(\w+) "\w+"( \w+)?,?$', found(r"macro_rules! field_table \{(.*?)^\}", text), re.M)
+    return [(stage.lower(), name == "KIND", bool(signal)) for stage, name, signal in rows]
+
+
+def indices(text):
+    """The index of each line's first field in the table of fields."""
+    rows = coded_fields(text)
+    before, count = "", sum(is_kind for _, is_kind, _ in rows)
+    for name in (*STAGES, ""):
+        constant = f"{name.upper()}_FIRST" if name else "FIELD_COUNT"
+        text = put(rf"^pub const {constant}: usize = .*?;$", f"pub const {constant}: usize = {before + ' + ' if before else ''}{count};", text)
+        before, count = constant, sum(stage == name and not is_kind for stage, is_kind, _ in rows)
+    return text
+
+
+def of_fields():
+    spec, code, table, design = f"{FIELDS}/specs/Layout.antt", f"{FIELDS}/src/places.rt", f"{FIELDS}/src/table.rt", "crates/hazard_rules/src/design.rt"
+    signals = sum(is_signal for _, _, is_signal in coded_fields(read(table)))
+    return {
+        spec: layout(read(spec)),
+        code: places(read(code), field_lists(read(spec))),
+        table: indices(read(table)),
+        design: put(r"^static PLACES: \[Place; \d+\]", f"static PLACES: [Place; {signals}]", read(design)),
+    }
+
+
+# ---- the obligations of PIPE
+
+
+def of_obligations():
+    spec, code, gates = "crates/pipe_obligations/specs/Rules.antt", "crates/pipe_obligations/src/lib.rt", read("crates/hazard_rules/src/demands.rt")
+    demanded = len(re.findall(r"\bo\d+ v s", body(read(spec), "demands")))
+    arms = len(re.findall(r"^        \d+ => ", gates, re.M))
+    return {
+        spec: put(r"^rule_count = \d+$", f"rule_count = {demanded}", read(spec)),
+        code: put(r"^pub const RULE_COUNT: u32 = \d+;$", f"pub const RULE_COUNT: u32 = {arms};", read(code)),
+    }
+
+
+def made():
+    """Each file that has something that follows, and its text."""
+    return of_signals() | of_signals_in_code() | of_fields() | of_obligations()
+
+
+if __name__ == "__main__":
+    for name, new in made().items():
+        with open(f"{TOP}/{name}", "w", encoding="utf-8") as out:
+            out.write(new)
