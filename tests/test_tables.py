@@ -1,4 +1,6 @@
 """Numbers that follow from the tables of signals, fields and obligations are as `tests/helpers/tables.py` writes them, and a new row changes the right ones."""
+import re
+
 from helpers import tables
 from helpers.cases import cases, same
 
@@ -82,3 +84,27 @@ def test_what_is_not_there():
         tables.found(r"^nowhere = (.*)$", "here = 1\n")
     except AssertionError as error:
         same(str(error), "^nowhere = (.*)$ is there 0 times")
+
+
+def given(text, kind, datapath):
+    """The names of one kind that the workbench's list for a datapath has."""
+    table = tables.found(rf"^(?:export )?const {kind} = \{{\n(.*?)^\}};", text)
+    return " ".join(re.findall(r'"([\w +]*)"', tables.found(rf"^  {datapath}: (.*?)(?=^  \w+:|\Z)", table))).replace("+", " ").split()
+
+
+# The lists of the workbench for a datapath, and the tables that have the same names.
+NAMES = [
+    ("pipe", "PipeTable", ["pipe_state", "pipe_hardware"], "pipe_defined"),
+    ("seq", "SeqTable", ["seq_state"], "seq_defined"),
+]
+
+
+@cases(NAMES)
+def test_names_in_the_workbench(row):
+    datapath, table, held, defined = row
+    text, page = tables.read(f"crates/dp_signals/specs/{table}.antt"), tables.read("web/src/names.mjs")
+    shared = tables.read("crates/dp_signals/specs/SequentialTables.antt")
+    control, hardware = tables.in_definition(shared, "control_rows"), tables.in_definition(shared, "hardware_rows")
+    names = [name for it in held for name in tables.in_definition(text, it)] + (hardware if datapath == "seq" else [])
+    same(sorted(given(page, "WORDS", datapath) + given(page, "CODES", datapath)), sorted(names))
+    same(given(page, "DEFINED", datapath), tables.in_definition(text, defined, control))
