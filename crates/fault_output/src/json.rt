@@ -4,24 +4,24 @@ ghost use Rattle.std.specs.Prelude.{◌≡◌, ◌++◌, codes, true, IfOk, OnOk
 ghost use Rattle.y86_base.specs.Numeral.{numeral};
 ghost use Rattle.fault_output.specs.Json as spec;
 
-use fault_report::{Datapath, Fault, Related, Report, datapath_name, put_bytes, put_decimal};
+use fault_report::{Datapath, Fault, Related, Report, datapath_name, put_decimal};
 use std::alloc::Global;
-use y86_base::{Memory, Numeral};
+use y86_base::{Memory, Numeral, put};
 
 /// Adds a byte of a string.
 fn put_char(out: &mut Vec<u8>, byte: u8) -> Result<(), Memory>
     ensures { OnOk result (out.new.items ≡ out.old.items ++ spec.char_text byte) }
 {
     if byte == b'"' || byte == b'\\' {
-        put_bytes(out, b"\\")?;
-        return put_bytes(out, &[byte]);
+        put(out, b"\\")?;
+        return put(out, &[byte]);
     }
     if b' ' <= byte && byte <= b'~' {
-        return put_bytes(out, &[byte]);
+        return put(out, &[byte]);
     }
-    put_bytes(out, b"\\u")?;
+    put(out, b"\\u")?;
     let digits = Numeral::hex(4, u64::from(byte));
-    put_bytes(out, digits.as_bytes())
+    put(out, digits.as_bytes())
 }
 
 /// Adds a string.
@@ -29,21 +29,21 @@ fn put_char(out: &mut Vec<u8>, byte: u8) -> Result<(), Memory>
 fn put_string(out: &mut Vec<u8>, bytes: &[u8]) -> Result<(), Memory>
     ensures { OnOk result (out.new.items ≡ out.old.items ++ spec.string_text bytes.now) }
 {
-    put_bytes(out, b"\"")?;
+    put(out, b"\"")?;
     for byte in bytes {
         match put_char(out, *byte) {
             Err(memory) => return Err(memory),
             Ok(()) => {}
         }
     }
-    put_bytes(out, b"\"")
+    put(out, b"\"")
 }
 
 /// Adds a member of an object whose value is a string. `name` includes the punctuation in front of it.
 fn put_text(out: &mut Vec<u8>, name: &[u8], bytes: &[u8]) -> Result<(), Memory>
     ensures { OnOk result (out.new.items ≡ out.old.items ++ name.now ++ spec.string_text bytes.now) }
 {
-    put_bytes(out, name)?;
+    put(out, name)?;
     put_string(out, bytes)
 }
 
@@ -51,7 +51,7 @@ fn put_text(out: &mut Vec<u8>, name: &[u8], bytes: &[u8]) -> Result<(), Memory>
 fn put_number(out: &mut Vec<u8>, name: &[u8], number: u64) -> Result<(), Memory>
     ensures { OnOk result (out.new.items ≡ out.old.items ++ name.now ++ numeral 10 1 number) }
 {
-    put_bytes(out, name)?;
+    put(out, name)?;
     put_decimal(out, number)
 }
 
@@ -59,11 +59,7 @@ fn put_number(out: &mut Vec<u8>, name: &[u8], number: u64) -> Result<(), Memory>
 fn put_comma(out: &mut Vec<u8>, is_first: bool) -> Result<(), Memory>
     ensures { OnOk result (out.new.items ≡ out.old.items ++ spec.comma is_first) }
 {
-    if is_first {
-        Ok(())
-    } else {
-        put_bytes(out, b", ")
-    }
+    if is_first { Ok(()) } else { put(out, b", ") }
 }
 
 /// Adds the names of what could be at the place.
@@ -71,7 +67,7 @@ fn put_comma(out: &mut Vec<u8>, is_first: bool) -> Result<(), Memory>
 fn put_expected(out: &mut Vec<u8>, expected: &[&'static [u8]]) -> Result<(), Memory>
     ensures { OnOk result (out.new.items ≡ out.old.items ++ spec.expected_text expected.now) }
 {
-    put_bytes(out, b", \"expected\": [")?;
+    put(out, b", \"expected\": [")?;
     let mut is_first = true;
     for name in expected {
         match put_comma(out, is_first) {
@@ -83,7 +79,7 @@ fn put_expected(out: &mut Vec<u8>, expected: &[&'static [u8]]) -> Result<(), Mem
             Ok(()) => is_first = false,
         }
     }
-    put_bytes(out, b"]")
+    put(out, b"]")
 }
 
 /// Adds another place.
@@ -95,7 +91,7 @@ fn put_place(out: &mut Vec<u8>, place: &Related) -> Result<(), Memory>
     put_text(out, b", \"text\": ", place.text.bytes())?;
     put_number(out, b", \"line\": ", place.line)?;
     put_number(out, b", \"column\": ", place.column)?;
-    put_bytes(out, b"}")
+    put(out, b"}")
 }
 
 /// Adds the other places.
@@ -103,7 +99,7 @@ fn put_place(out: &mut Vec<u8>, place: &Related) -> Result<(), Memory>
 fn put_places(out: &mut Vec<u8>, places: &[Related]) -> Result<(), Memory>
     ensures { OnOk result (out.new.items ≡ out.old.items ++ spec.related_text places.now) }
 {
-    put_bytes(out, b", \"related\": [")?;
+    put(out, b", \"related\": [")?;
     let mut is_first = true;
     for place in places {
         match put_comma(out, is_first) {
@@ -115,7 +111,7 @@ fn put_places(out: &mut Vec<u8>, places: &[Related]) -> Result<(), Memory>
             Ok(()) => is_first = false,
         }
     }
-    put_bytes(out, b"]")
+    put(out, b"]")
 }
 
 /// Adds where a fault is.
@@ -155,14 +151,14 @@ fn put_fault(out: &mut Vec<u8>, fault: &Fault) -> Result<(), Memory>
     put_said(out, fault)?;
     put_expected(out, fault.expected.items())?;
     put_places(out, fault.related.items())?;
-    put_bytes(out, b"}")
+    put(out, b"}")
 }
 
 /// Adds all faults.
 fn put_faults(out: &mut Vec<u8>, faults: &[Fault]) -> Result<(), Memory>
     ensures { OnOk result (out.new.items ≡ out.old.items ++ codes "\"faults\": [" ++ spec.faults_text true faults.now ++ codes "]") }
 {
-    put_bytes(out, b"\"faults\": [")?;
+    put(out, b"\"faults\": [")?;
     let mut is_first = true;
     for fault in faults {
         match put_comma(out, is_first) {
@@ -174,7 +170,7 @@ fn put_faults(out: &mut Vec<u8>, faults: &[Fault]) -> Result<(), Memory>
             Ok(()) => is_first = false,
         }
     }
-    put_bytes(out, b"]")
+    put(out, b"]")
 }
 
 /// Adds the datapath, if there is one.
@@ -196,8 +192,8 @@ pub fn report_json(alloc: Global, file: &[u8], report: &Report) -> Result<Vec<u8
     let mut out = Vec::new(alloc);
     put_text(&mut out, b"{\"file\": ", file)?;
     put_datapath(&mut out, report.datapath)?;
-    put_bytes(&mut out, b", ")?;
+    put(&mut out, b", ")?;
     put_faults(&mut out, report.faults.items())?;
-    put_bytes(&mut out, b"}\n")?;
+    put(&mut out, b"}\n")?;
     Ok(out)
 }

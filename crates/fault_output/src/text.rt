@@ -2,9 +2,9 @@
 ghost use Rattle.std.specs.Prelude.{◌≡◌, ◌++◌, IfOk, OnOk};
 ghost use Rattle.fault_output.specs.Lines as spec;
 
-use fault_report::{Fault, Report, put_bytes, put_decimal};
+use fault_report::{Fault, Report, put_decimal};
 use std::alloc::Global;
-use y86_base::Memory;
+use y86_base::{Memory, put};
 
 /// Adds a line or a column, if there is one.
 #[tactic(auto, unfolding(crate::specs::Lines::place_text))]
@@ -15,7 +15,7 @@ fn put_place(out: &mut Vec<u8>, number: u64) -> Result<(), Memory>
         return Ok(());
     }
     put_decimal(out, number)?;
-    put_bytes(out, b":")
+    put(out, b":")
 }
 
 /// Adds where a fault is.
@@ -23,8 +23,8 @@ fn put_place(out: &mut Vec<u8>, number: u64) -> Result<(), Memory>
 fn put_front(out: &mut Vec<u8>, file: &[u8], fault: &Fault) -> Result<(), Memory>
     ensures { OnOk result (out.new.items ≡ out.old.items ++ spec.front_text file.now fault.now) }
 {
-    put_bytes(out, file)?;
-    put_bytes(out, b":")?;
+    put(out, file)?;
+    put(out, b":")?;
     put_place(out, fault.line)?;
     put_place(out, fault.column)
 }
@@ -35,9 +35,9 @@ fn put_fault(out: &mut Vec<u8>, file: &[u8], fault: &Fault) -> Result<(), Memory
     ensures { OnOk result (out.new.items ≡ out.old.items ++ spec.fault_line file.now fault.now) }
 {
     put_front(out, file, fault)?;
-    put_bytes(out, b" ")?;
-    put_bytes(out, fault.sentence.bytes())?;
-    put_bytes(out, b"\n")
+    put(out, b" ")?;
+    put(out, fault.sentence.bytes())?;
+    put(out, b"\n")
 }
 
 /// A line for each fault: `FILE:LINE:COLUMN: SENTENCE`. The column or the line is left out if there is none.

@@ -123,15 +123,6 @@ fn is_fixed(variant: Variant, text: &[u8]) -> bool {
     meaning_of(directives(), text).is_some() || meaning_of(register_names(), text).is_some()
 }
 
-/// A letter in lower case.
-fn lower(byte: u8) -> u8 {
-    if b'A' <= byte && byte <= b'Z' {
-        byte + 32
-    } else {
-        byte
-    }
-}
-
 /// Whether a text differs from another in nothing but capital letters, of which it has at least one.
 fn differs_in_capitals(text: &[u8], other: &[u8]) -> bool {
     if text.len() != other.len() {
@@ -144,7 +135,7 @@ fn differs_in_capitals(text: &[u8], other: &[u8]) -> bool {
         let Some((two, further)) = left.split_first() else {
             return false;
         };
-        if lower(*one) != *two {
+        if one.to_ascii_lowercase() != *two {
             return false;
         }
         has_capital = has_capital || *one != *two;

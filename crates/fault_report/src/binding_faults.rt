@@ -4,7 +4,7 @@ ghost use Rattle.hcl_types.specs.Tables.{IsSound};
 
 use crate::blame::{Blame, Blamed, first_blame, kind_of_row};
 use crate::facts::{Datapath, Fault, Related, datapath_name, other_place, put};
-use crate::fill::{Words, filled, put_bytes, words_about};
+use crate::fill::{Words, filled, words_about};
 use crate::hcl_reading::line_of;
 use hcl_binding::{BindWhy, bind};
 use hcl_faults::{
@@ -15,7 +15,7 @@ use hcl_order::{OrderFault, order};
 use hcl_tree::{File, Item, Kind, Text};
 use hcl_types::{Row, Table};
 use std::alloc::Global;
-use y86_base::{Items, Memory};
+use y86_base::{Items, Memory, put as put_bytes};
 
 /// A text with its tokens, and the datapath whose names it may use.
 #[derive(Clone, Copy)]

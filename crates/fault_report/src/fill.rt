@@ -3,7 +3,7 @@ ghost use Rattle.std.specs.Prelude.{◌≡◌, ◌≤◌, ◌++◌, length, OnOk
 ghost use Rattle.y86_base.specs.Numeral.{numeral};
 
 use std::alloc::Global;
-use y86_base::{Memory, Numeral};
+use y86_base::{Memory, Numeral, put};
 
 /// What replaces the places of a pattern.
 #[derive(Clone, Copy, Debug)]
@@ -71,49 +71,39 @@ pub fn words_about<'a>(
     }
 }
 
-/// Adds bytes to a text.
-pub fn put_bytes(out: &mut Vec<u8>, bytes: &[u8]) -> Result<(), Memory>
-    ensures { OnOk result (out.new.items ≡ out.old.items ++ bytes.now) }
-{
-    match out.extend_from_slice(bytes) {
-        Ok(()) => Ok(()),
-        Err(_) => Err(Memory),
-    }
-}
-
 /// Adds a decimal number to a text.
 pub fn put_decimal(out: &mut Vec<u8>, number: u64) -> Result<(), Memory>
     ensures { OnOk result (out.new.items ≡ out.old.items ++ numeral 10 1 number) }
 {
     let digits = Numeral::decimal(number);
-    put_bytes(out, digits.as_bytes())
+    put(out, digits.as_bytes())
 }
 
 /// Adds what replaces a place of a pattern.
 fn put_word(out: &mut Vec<u8>, words: &Words, place: &[u8]) -> Result<(), Memory> {
     if place == b"found".as_slice() {
-        return put_bytes(out, words.found);
+        return put(out, words.found);
     }
     if place == b"before".as_slice() {
-        return put_bytes(out, words.before);
+        return put(out, words.before);
     }
     if place == b"open".as_slice() {
-        return put_bytes(out, words.open);
+        return put(out, words.open);
     }
     if place == b"close".as_slice() {
-        return put_bytes(out, words.close);
+        return put(out, words.close);
     }
     if place == b"opener".as_slice() {
-        return put_bytes(out, words.opener);
+        return put(out, words.opener);
     }
     if place == b"name".as_slice() {
-        return put_bytes(out, words.name);
+        return put(out, words.name);
     }
     if place == b"usage".as_slice() {
-        return put_bytes(out, words.usage);
+        return put(out, words.usage);
     }
     if place == b"wanted".as_slice() {
-        return put_bytes(out, words.wanted);
+        return put(out, words.wanted);
     }
     put_number(out, words, place)
 }
@@ -151,7 +141,7 @@ fn put_filled(out: &mut Vec<u8>, pattern: &[u8], words: &Words) -> Result<(), Me
         let added = if is_place {
             put_word(out, words, front)
         } else {
-            put_bytes(out, front)
+            put(out, front)
         };
         match added {
             Err(memory) => return Err(memory),

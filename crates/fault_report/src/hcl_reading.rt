@@ -1,12 +1,12 @@
 //! The fault of a text that is not HCL, as a sentence.
 use crate::facts::{Fault, Related, other_place, part, put};
-use crate::fill::{Words, filled, no_words, put_bytes};
+use crate::fill::{Words, filled, no_words};
 use crate::hcl_rules::{HclRule, Test, hcl_rules};
 use hcl_faults::{Stopped, TokenAt, TokenKind as Kind, place_at, token_text};
 use hcl_read::HclWhy;
 use hcl_tree::Text;
 use std::alloc::Global;
-use y86_base::{Items, Memory, number_in_base};
+use y86_base::{Items, Memory, number_in_base, put as put_bytes};
 
 /// The facts that the tests of a rule need.
 #[derive(Clone, Copy)]

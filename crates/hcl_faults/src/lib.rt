@@ -1,5 +1,5 @@
 //! The faults of an HCL text as data: where the reader stopped, what it expected there and which brackets are open;
-//! every fault of binding; the places of definitions and of their cases. `fault_report` makes sentences of them.
+//! every fault of binding; the definitions of names. `fault_report` makes sentences of them.
 #![tactic(auto)]
 
 mod binding;
@@ -14,9 +14,7 @@ mod tokens;
 
 pub use binding::{ItemFault, is_defined_by, item_faults, law_of_first_faults, missing_names};
 pub use brackets::open_brackets;
-pub use cases::{
-    case_place, case_start, definition_name, definition_place, item_start, token_text,
-};
+pub use cases::{definition_name, item_start, token_text};
 pub use expected::{FOLLOW_KINDS, expected_kinds, law_of_expected};
 pub use kinds::{TokenKind, kind_of, sample};
 pub use places::{TextPlace, place_at};

@@ -134,6 +134,7 @@ pub fn run_outcome(alloc: Global, request: OutcomeRequest, image: Image) -> Resu
         limit,
         checked,
     } = request;
+    // (brings what holds of every image: its size is bounded)
     let _size = image.size();
     let judged = judge_if(alloc, checked, variant, &design, &order)?;
     let Ok(watched) = image.copy(alloc) else {
