@@ -210,6 +210,7 @@ REFUSED = [
     ("fault p.yo --mem 65", 2, ODD_SIZE),
     ("fault no.hcl", 3, NO_FILE),
     ("fault long.yo", 7, TOO_LONG),
+    ("fault long.hcl", 7, TOO_LONG),
     ("check std.hcl", 2, "error: "),
     ("check pipe", 2, "error: "),
     ("check pipe std.hcl --mem 64", 2, "error: "),

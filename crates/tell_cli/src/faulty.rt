@@ -4,7 +4,8 @@ ghost use Rattle.hcl_types.specs.Tables.{IsSound};
 ghost use Rattle.y86_base.specs.Image.{IsSize};
 ghost use Rattle.tell_cli.specs.Faults as spec;
 
-use crate::checking::Said;
+use crate::checking::{HCL_LIMIT, Said};
+use crate::programs::OBJECT_LIMIT;
 use crate::stop::{Stop, unread};
 use dp_signals::{law_of_tables, pipe_table, seq_table};
 use explanations::Path;
@@ -36,8 +37,17 @@ pub struct FaultQuestion {
     pub json: bool,
 }
 
-/// The most bytes of a file that is read for its faults.
-const LIMIT: u64 = 1_048_576;
+/// The most bytes of a source.
+const SOURCE_LIMIT: u64 = 1_048_576;
+
+/// The most bytes of a file of a kind.
+fn limit_of(kind: Kind) -> u64 {
+    match kind {
+        Kind::Hcl => HCL_LIMIT,
+        Kind::Assembly => SOURCE_LIMIT,
+        Kind::Object => OBJECT_LIMIT,
+    }
+}
 
 /// What a file is: `.hcl`, `.yo`, and assembly otherwise.
 fn kind_of(file: &str) -> Kind {
@@ -138,11 +148,12 @@ pub fn tell_faults<F: Files>(
 ) -> Result<Said, Stop>
     requires { IsSize asked.size }
 {
-    let text = match files.read(alloc, file, LIMIT) {
+    let kind = kind_of(file);
+    let text = match files.read(alloc, file, limit_of(kind)) {
         Ok(text) => text,
         Err(error) => return Err(unread(error)),
     };
-    let Ok(report) = report_of(alloc, kind_of(file), text.as_slice(), asked) else {
+    let Ok(report) = report_of(alloc, kind, text.as_slice(), asked) else {
         return Err(Stop::Memory);
     };
     match said_of(alloc, file, &report, asked.json) {
