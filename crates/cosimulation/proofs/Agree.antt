@@ -62,7 +62,7 @@ module _ (v : Variant) (terms : List Term) (order image : List ℕ) (refines : (
   finds_none limit (Same steps cycles) is = tt
   finds_none limit (Open steps) is = tt
   finds_none limit (Record d) is = no_other d is.1
-  finds_none limit (State steps cycles part) (q, a, within, off, differs) =
+  finds_none limit (State steps cycles part) (q, a, within, off, first) =
       let s = same_machine steps cycles q a off in
       let e : end_of q ≡ run_of v image steps = rw (s.registers, s.flags, s.memory, s.pc, s.stat) refl in
-      no_part (end_of q) (run_of v image steps) part e differs
+      no_part (end_of q) (run_of v image steps) part e first.differs

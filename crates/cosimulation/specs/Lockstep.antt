@@ -11,7 +11,7 @@ use Rattle.y86_isa.specs.Run.{records_from, run_from}
 use Rattle.y86_isa.specs.Step.{retired}
 use Rattle.y86_isa.specs.declared.machine.Machine.{Machine}
 use Rattle.y86_isa.specs.declared.machine.Rec.{Rec}
-use Rattle.cosimulation.specs.States.{DiffersIn, SameState}
+use Rattle.cosimulation.specs.States.{FirstDiffersIn, SameState}
 use Rattle.cosimulation.specs.declared.lockstep.Compared.{Compared}
 use Rattle.cosimulation.specs.declared.lockstep.Compared.TheVariants.{Same, Open, Record, State}
 use Rattle.cosimulation.specs.declared.lockstep.RecordDiffers.{RecordDiffers}
@@ -38,7 +38,7 @@ IsCompared v p m limit (Same steps cycles) =
 IsCompared v p m limit (Open steps) = (q : PipeMachine) × IsAlike v p m limit steps q × (is_aok q.end ≡ true)
 IsCompared v p m limit (Record d) = (d.cycle ≤ limit) × IsFirstDifferent v p m d
 IsCompared v p m limit (State steps cycles part) =
-    (q : PipeMachine) × IsAlike v p m cycles steps q × (cycles ≤ limit) × (is_aok q.end ≡ false) × DiffersIn (end_of q) (run_from v m steps) part
+    (q : PipeMachine) × IsAlike v p m cycles steps q × (cycles ≤ limit) × (is_aok q.end ≡ false) × FirstDiffersIn (end_of q) (run_from v m steps) part
 
 -- ---- one cycle
 
@@ -64,4 +64,4 @@ abbrev pub EndsAs : Machine → Machine → ℕ → ℕ → Compared → Type 0
 EndsAs m n steps cycles (Same a b) = (a ≡ steps) × (b ≡ cycles) × SameState m n
 EndsAs m n steps cycles (Open a) = ⊥
 EndsAs m n steps cycles (Record d) = ⊥
-EndsAs m n steps cycles (State a b part) = (a ≡ steps) × (b ≡ cycles) × DiffersIn m n part
+EndsAs m n steps cycles (State a b part) = (a ≡ steps) × (b ≡ cycles) × FirstDiffersIn m n part
