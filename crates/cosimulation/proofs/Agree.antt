@@ -40,7 +40,7 @@ module _ (v : Variant) (terms : List Term) (order image : List ℕ) (refines : (
   no_other d f =
       let rs : List Rec = records v image d.before ++ d.retired ∷ [] in
       let is : rs ≡ records v image (length rs) = (refines d.cycle).records (machine f.after rs) (ran d.cycle f.after rs f.goes) in
-      let count : length rs ≡ d.before + 1 = omega (arith, length_push (records v image d.before) d.retired, f.count) in
+      let count : length rs ≡ d.before + 1 = omega (arith, length_push (records v image d.before) d.retired, f.alike.count) in
       let all : rs ≡ records v image d.before ++ option_to_list (retired v (run_of v image d.before)) =
       is ∙ (ap (records v image) count ∙ records_from-last v (start image) d.before) in
       f.differs (f.wanted ∙ one_by (records v image d.before) (retired v (run_of v image d.before)) d.retired all)

@@ -1,5 +1,5 @@
 -- The run of PIPE beside the run by instructions: the first record that differs, or the final states.
-use Rattle.std.specs.Prelude.{◌≡◌, ◌≢◌, ℕ, ◌≤◌, true, false, [], ◌∷◌, ◌++◌, length, Option, Some}
+use Rattle.std.specs.Prelude.{◌≡◌, ◌≢◌, ℕ, ◌-◌, ◌≤◌, true, false, [], ◌∷◌, ◌++◌, length, Option, Some}
 use Rattle.std.specs.Option.{option_to_list}
 use Rattle.pipe_path.specs.Calls.{record_in}
 use Rattle.pipe_path.specs.Pipe.{IsPipeCall, PipeMachine, end_of}
@@ -22,12 +22,13 @@ pub record IsAlike (v : Variant) (p : PipeMachine) (m : Machine) (cycles steps :
   pub goes : CallsFor p cycles q (records_from v m steps)
   pub count : length (records_from v m steps) ≡ steps
 
--- The first record that differs: the records before it are alike, it retired in this cycle, and the run by
--- instructions has another record in its place, or none.
+-- The first record that differs: the cycles before this one retired exactly the records before it, it retired in this
+-- cycle, and the run by instructions has another record in its place, or none.
 pub record IsFirstDifferent (v : Variant) (p : PipeMachine) (m : Machine) (d : RecordDiffers) : Type 0 where
+  pub last : PipeMachine
+  pub alike : IsAlike v p m (d.cycle - 1) d.before last
   pub after : PipeMachine
   pub goes : CallsFor p d.cycle after (records_from v m d.before ++ d.retired ∷ [])
-  pub count : length (records_from v m d.before) ≡ d.before
   pub wanted : d.wanted ≡ retired v (run_from v m d.before)
   pub differs : d.wanted ≢ Some d.retired
 
