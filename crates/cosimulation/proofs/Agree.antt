@@ -40,7 +40,7 @@ module _ (v : Variant) (terms : List Term) (order image : List ℕ) (refines : (
   no_other d f =
       let rs : List Rec = records v image d.before ++ d.retired ∷ [] in
       let is : rs ≡ records v image (length rs) = (refines d.cycle).records (machine f.after rs) (ran d.cycle f.after rs f.goes) in
-      let count : length rs ≡ d.before + 1 = omega (arith, length_push (records v image d.before) d.retired, f.count) in
+      let count : length rs ≡ d.before + 1 = omega (arith, length_push (records v image d.before) d.retired, f.alike.count) in
       let all : rs ≡ records v image d.before ++ option_to_list (retired v (run_of v image d.before)) =
       is ∙ (ap (records v image) count ∙ records_from-last v (start image) d.before) in
       f.differs (f.wanted ∙ one_by (records v image d.before) (retired v (run_of v image d.before)) d.retired all)
@@ -62,7 +62,7 @@ module _ (v : Variant) (terms : List Term) (order image : List ℕ) (refines : (
   finds_none limit (Same steps cycles) is = tt
   finds_none limit (Open steps) is = tt
   finds_none limit (Record d) is = no_other d is.1
-  finds_none limit (State steps cycles part) (q, a, within, off, differs) =
+  finds_none limit (State steps cycles part) (q, a, within, off, first) =
       let s = same_machine steps cycles q a off in
       let e : end_of q ≡ run_of v image steps = rw (s.registers, s.flags, s.memory, s.pc, s.stat) refl in
-      no_part (end_of q) (run_of v image steps) part e differs
+      no_part (end_of q) (run_of v image steps) part e first.differs

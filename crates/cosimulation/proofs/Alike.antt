@@ -1,5 +1,5 @@
 -- Two machines side by side: one more cycle, and the end.
-use Rattle.std.proofs.Common.{◌≡◌, ℕ, zero, suc, ◌+◌, ◌<◌, ◌≤◌, true, false, List, [], ◌∷◌, ◌++◌, length, Option, Some, None, refl, sym, ap, ◌∙◌, subst, add-one, arith, length-append}
+use Rattle.std.proofs.Common.{◌≡◌, ℕ, zero, suc, ◌+◌, ◌-◌, ◌<◌, ◌≤◌, true, false, List, [], ◌∷◌, ◌++◌, length, Option, Some, None, refl, sym, ap, ◌∙◌, subst, add-one, arith, length-append}
 use Rattle.std.proofs.lemmas.List.{append-nil}
 use Rattle.std.specs.Option.{option_to_list}
 use Rattle.pipe_path.specs.Calls.{record_in}
@@ -108,9 +108,10 @@ pub first_different : (v : Variant) (p : PipeMachine) (m : Machine) (k steps lim
 first_different v p m k steps limit q z n one other s going lt g = (
   omega (arith, lt),
   record {
+    last = q;
+    alike = let here : k + 1 - 1 ≡ k = omega arith in subst (λ (i : ℕ). IsAlike v p m i steps q) (sym here) s.alike;
     after = z;
     goes = goes_more p k q z g.answer (records_from v m steps) (records_from v m steps ++ one ∷ []) s.alike.goes going g.cycle (ap (λ x. records_from v m steps ++ option_to_list x) (sym g.retires));
-    count = s.alike.count;
     wanted = g.wanted ∙ ap (retired v) s.machine;
     differs = g.differs;
   },

@@ -1,5 +1,5 @@
 -- The run of PIPE beside the run by instructions: the first record that differs, or the final states.
-use Rattle.std.specs.Prelude.{◌≡◌, ◌≢◌, ℕ, ◌≤◌, true, false, [], ◌∷◌, ◌++◌, length, Option, Some}
+use Rattle.std.specs.Prelude.{◌≡◌, ◌≢◌, ℕ, ◌-◌, ◌≤◌, true, false, [], ◌∷◌, ◌++◌, length, Option, Some}
 use Rattle.std.specs.Option.{option_to_list}
 use Rattle.pipe_path.specs.Calls.{record_in}
 use Rattle.pipe_path.specs.Pipe.{IsPipeCall, PipeMachine, end_of}
@@ -11,7 +11,7 @@ use Rattle.y86_isa.specs.Run.{records_from, run_from}
 use Rattle.y86_isa.specs.Step.{retired}
 use Rattle.y86_isa.specs.declared.machine.Machine.{Machine}
 use Rattle.y86_isa.specs.declared.machine.Rec.{Rec}
-use Rattle.cosimulation.specs.States.{DiffersIn, SameState}
+use Rattle.cosimulation.specs.States.{FirstDiffersIn, SameState}
 use Rattle.cosimulation.specs.declared.lockstep.Compared.{Compared}
 use Rattle.cosimulation.specs.declared.lockstep.Compared.TheVariants.{Same, Open, Record, State}
 use Rattle.cosimulation.specs.declared.lockstep.RecordDiffers.{RecordDiffers}
@@ -22,12 +22,13 @@ pub record IsAlike (v : Variant) (p : PipeMachine) (m : Machine) (cycles steps :
   pub goes : CallsFor p cycles q (records_from v m steps)
   pub count : length (records_from v m steps) ≡ steps
 
--- The first record that differs: the records before it are alike, it retired in this cycle, and the run by
--- instructions has another record in its place, or none.
+-- The first record that differs: the cycles before this one retired exactly the records before it, it retired in this
+-- cycle, and the run by instructions has another record in its place, or none.
 pub record IsFirstDifferent (v : Variant) (p : PipeMachine) (m : Machine) (d : RecordDiffers) : Type 0 where
+  pub last : PipeMachine
+  pub alike : IsAlike v p m (d.cycle - 1) d.before last
   pub after : PipeMachine
   pub goes : CallsFor p d.cycle after (records_from v m d.before ++ d.retired ∷ [])
-  pub count : length (records_from v m d.before) ≡ d.before
   pub wanted : d.wanted ≡ retired v (run_from v m d.before)
   pub differs : d.wanted ≢ Some d.retired
 
@@ -38,7 +39,7 @@ IsCompared v p m limit (Same steps cycles) =
 IsCompared v p m limit (Open steps) = (q : PipeMachine) × IsAlike v p m limit steps q × (is_aok q.end ≡ true)
 IsCompared v p m limit (Record d) = (d.cycle ≤ limit) × IsFirstDifferent v p m d
 IsCompared v p m limit (State steps cycles part) =
-    (q : PipeMachine) × IsAlike v p m cycles steps q × (cycles ≤ limit) × (is_aok q.end ≡ false) × DiffersIn (end_of q) (run_from v m steps) part
+    (q : PipeMachine) × IsAlike v p m cycles steps q × (cycles ≤ limit) × (is_aok q.end ≡ false) × FirstDiffersIn (end_of q) (run_from v m steps) part
 
 -- ---- one cycle
 
@@ -64,4 +65,4 @@ abbrev pub EndsAs : Machine → Machine → ℕ → ℕ → Compared → Type 0
 EndsAs m n steps cycles (Same a b) = (a ≡ steps) × (b ≡ cycles) × SameState m n
 EndsAs m n steps cycles (Open a) = ⊥
 EndsAs m n steps cycles (Record d) = ⊥
-EndsAs m n steps cycles (State a b part) = (a ≡ steps) × (b ≡ cycles) × DiffersIn m n part
+EndsAs m n steps cycles (State a b part) = (a ≡ steps) × (b ≡ cycles) × FirstDiffersIn m n part

@@ -7,6 +7,6 @@ mod lockstep;
 mod records;
 mod states;
 
-pub use laws::law_of_agreement;
+pub use laws::{law_of_agreement, law_of_equal_ends};
 pub use lockstep::{Compared, RecordDiffers, compare};
 pub use states::{Part, difference};

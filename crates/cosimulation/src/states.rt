@@ -1,6 +1,6 @@
 //! The first part in which two final states differ.
-ghost use Rattle.std.specs.Prelude.{◌≡◌, ◌≢◌, ◌<◌, ◌^◌, ◌/◌, IfNone, IfSome, length, ℕ};
-ghost use Rattle.cosimulation.specs.States.{DiffersIn, SameState};
+ghost use Rattle.std.specs.Prelude.{◌≡◌, ◌≢◌, ◌<◌, ◌^◌, ◌/◌, IfNone, IfSome, length};
+ghost use Rattle.cosimulation.specs.States.{FirstDiffersIn, SameRegisters, SameState, SameWords};
 ghost use Rattle.y86_base.specs.Registers.{register};
 ghost use Rattle.yis_run.specs.Report.{aligned_word, ended};
 
@@ -20,8 +20,9 @@ pub enum Part {
 
 /// The first register in which they differ.
 fn register_difference(one: &Regs, other: &Regs) -> Option<u64>
-    ensures none { IfNone result ((n : ℕ) → n < 15 → register one.now n ≡ register other.now n) }
+    ensures none { IfNone result (SameRegisters one.now other.now 15) }
     ensures some { IfSome result (λ n. register one.now n ≢ register other.now n) }
+    ensures first { IfSome result (SameRegisters one.now other.now) }
 {
     for n in 0..15 {
         if one.get(n) != other.get(n) {
@@ -41,8 +42,9 @@ fn word_of(memory: &Image, n: u64) -> u64
 
 /// The first aligned word in which they differ, by its index, and its value in both.
 fn memory_difference(one: &Image, other: &Image) -> Option<(u64, u64, u64)>
-    ensures none { IfNone result ((n : ℕ) → n < length one.now / 8 → aligned_word one.now n ≡ aligned_word other.now n) }
+    ensures none { IfNone result (SameWords one.now other.now (length one.now / 8)) }
     ensures some { IfSome result (λ d. (d.1 ≡ aligned_word one.now d.0) × (d.2 ≡ aligned_word other.now d.0) × (d.1 ≢ d.2)) }
+    ensures first { IfSome result (λ d. SameWords one.now other.now d.0) }
 {
     let words = one.size() / 8;
     for n in 0..words {
@@ -58,7 +60,7 @@ fn memory_difference(one: &Image, other: &Image) -> Option<(u64, u64, u64)>
 /// The first part in which two final states differ.
 pub fn difference(one: &End<'_>, other: &End<'_>) -> Option<Part>
     ensures none { IfNone result (SameState (ended one.now) (ended other.now)) }
-    ensures some { IfSome result (λ part. DiffersIn (ended one.now) (ended other.now) part) }
+    ensures some { IfSome result (FirstDiffersIn (ended one.now) (ended other.now)) }
 {
     if one.stat.number() != other.stat.number() {
         return Some(Part::Stat(one.stat, other.stat));
