@@ -4,6 +4,7 @@ The rows are mistakes that students made, and more of our own. Each wanted sente
 mistake meets; lines and columns are counted by hand.
 """
 import json
+import re
 
 from helpers.cases import cases, same
 from helpers.designs import changed, design, without
@@ -50,6 +51,13 @@ HCL = [
     ("a dash from a word processor", "word aluA = \u20131;\n", "1:13: The byte here is no printable ASCII. Outside comments and quoted texts a file has nothing else; often it is a quotation mark, a dash or a blank from a word processor."),
     ("a declaration for a definition", "boolsig set_cc = 1;\n", "1:16: A declaration is `wordsig NAME 'text'`. A definition begins with `word` or `bool`."),
     ("=<", "bool set_cc = E_icode =< 3;\n", "1:23: Write `<=`."),
+    ("a brace too many", "bool set_cc = E_icode == IOPQ };\n", "1:31: No `{` is open here: this `}` is one too many."),
+    ("a bracket too many", "word aluA = 1 ];\n", "1:15: No `[` is open here: this `]` is one too many."),
+    # lists of what could be there, in the order of the grammar's tokens
+    ("two operands in parentheses", "bool set_cc = (E_icode IOPQ);\n",
+        "1:24: `IOPQ` does not belong here. Here could be: `in`, `||`, `&&`, a comparison, `)`."),
+    ("a text that ends behind =", "word aluA =\n", "2:1: The file ends in the midst of an item: a name, a number, `!`, `(`, `[` is missing after `=`."),
+    ("a text that ends behind word", "word\n", "2:1: The file ends in the midst of an item: a name is missing after `word`."),
 ]
 
 
@@ -89,6 +97,62 @@ def test_binding(row, y86_tell):
     same([line.startswith(start) for line, start in zip(told, wanted)] + [len(told)], [True] * len(wanted) + [len(wanted)])
 
 
+def in_front(definitions):
+    """The design `std` with definitions in front, on the first lines, in place of its own of these names."""
+    return definitions + without(design("std"), re.findall(r"\b(?:word|bool) (\w+)", definitions))
+
+
+# Definitions, and each line on them.
+DEFINITIONS = [
+    ("a list of cases for a Boolean", "bool set_cc = [ 1 : 1; ];\n",
+        ["1:17: The list of cases that begins before `1` is a word, and a Boolean belongs there, in the definition of `set_cc`."]),
+    ("a comparison for a word", "word aluA = E_icode == IOPQ;\n",
+        ["1:13: The expression that begins with `E_icode` is a Boolean, and a word belongs here, in the definition of `aluA`."]),
+    ("a number for a Boolean", "bool set_cc = 2;\n", ["1:15: `2` is a word, and a Boolean, 0 or 1, belongs here, in the definition of `set_cc`."]),
+    ("a word for a Boolean", "bool set_cc =\n  !(m_stat == SADR || SINS);\n",
+        ["2:23: `SINS` is a word, and a Boolean belongs here, in the definition of `set_cc`."]),
+    ("a Boolean for a word", "word aluA = [ e_Cnd : 1; 1 : e_Cnd; ];\n",
+        ["1:30: `e_Cnd` is a Boolean, and a word belongs here, in the definition of `aluA`."]),
+    ("a fault behind a quote", "quote 'the flags'\nbool set_cc = 2;\n",
+        ["2:15: `2` is a word, and a Boolean, 0 or 1, belongs here, in the definition of `set_cc`."]),
+    ("a signal that is read before its two definitions", "bool M_stall = set_cc && 0;\nbool set_cc = 0;\nbool set_cc = 1;\n",
+        ["3:6: `set_cc` is defined a second time; its first definition is in line 2."]),
+    ("a cycle", "word aluB = aluA;\nword aluA = aluB;\n", ["2:6: `aluA` depends on itself: `aluA` needs `aluB`, `aluB` needs `aluA`."]),
+    ("a fault in a later column of an earlier line", "bool set_cc = E_icode == IOPQ || 2;\nword aluC = 1;\n", [
+        "1:34: `2` is a word, and a Boolean, 0 or 1, belongs here, in the definition of `set_cc`.",
+        "2:6: `aluC` is no name of PIPE: a file uses and defines the names of its datapath alone."]),
+]
+
+
+@cases(DEFINITIONS)
+def test_definitions(row, y86_tell):
+    _, definitions, wanted = row
+    answer = y86_tell("fault", "f.hcl", "pipe", files={"f.hcl": in_front(definitions)})
+    same((answer.status, lines_of(answer)), (5, wanted))
+
+
+def test_another_datapath(y86_tell):
+    """Of the names that PIPE lacks, each counts once."""
+    answer = y86_tell("fault", "f.hcl", "pipe", files={"f.hcl": "word srcA = rA;\nword srcB = rB;\nword dstE = rA;\n"})
+    same(lines_of(answer), ["1:6: This is a file for SEQ, not for PIPE: SEQ has all its names, and PIPE lacks 5 of them, `srcA` first."])
+
+
+# A definition, and the processor whose signals fit it best: of several the first of PIPE, SEQ and SEQ+.
+DATAPATHS = [
+    ("all three", "bool mem_read = 0;\n", "PIPE"),
+    ("SEQ and SEQ+", "word srcA = rA;\n", "SEQ"),
+    ("SEQ", "word new_pc = valP;\n", "SEQ"),
+    ("SEQ+", "word pc = pValP;\n", "SEQ+"),
+    ("PIPE", "word d_srcA = D_rA;\n", "PIPE"),
+]
+
+
+@cases(DATAPATHS)
+def test_the_datapath_that_fits(row, y86_tell):
+    _, text, wanted = row
+    same(json.loads(y86_tell("fault", "f.hcl", "--json", files={"f.hcl": text}).out)["datapath"], wanted)
+
+
 # A line of assembly, and what is said of it.
 ASSEMBLY = [
     ("a move of x86", "movq %rax, %rbx", "1:1: Y86-64 has no `movq`, but four moves: `rrmovq rA, rB`, `irmovq V, rB`, `rmmovq rA, D(rB)` and `mrmovq D(rB), rA`."),
@@ -121,6 +185,10 @@ ASSEMBLY = [
     ("irmovq with a register", "irmovq %rax, %rbx", "1:8: The first operand of `irmovq` is a number or a label. `rrmovq` copies a register, and `addq` adds one."),
     ("a parenthesis that isn't closed", "mrmovq 8(%rax, %rbx", "1:14: An address has one base register and no index: `D(rB)`."),
     (".align 0", ".align 0", "1:8: `.align` takes a number that is 1 at least."),
+    ("a label without its colon in front of a statement", "loop halt", "1:1: `loop` is no mnemonic of Y86-64. If it is a label, its `:` is missing."),
+    ("a word that is no label", "loop 5", "1:1: `loop` is no mnemonic of Y86-64."),
+    ("a negative number for a register", "addq -8, %rax",
+        "1:6: `addq` works on two registers. Load the number by `irmovq`, or a word of memory by `mrmovq`, first."),
 ]
 
 
@@ -146,6 +214,111 @@ def test_object_text(y86_tell):
     assert b"No line puts a byte anywhere" in empty.out and empty.status == 5
     two = y86_tell("fault", "f.yo", files={"f.yo": "0x000: 30f |\n0x004: 00 |\n0x008 00\n"})
     same([line.split(b":")[1] for line in two.out.splitlines() if line.startswith(b"f.")], [b"1", b"3"])
+
+
+NO_COMMA = "The `,` between the operands is missing before `%rax`. Write `irmovq V, rB`."
+NO_LABEL = "No line defines the label `nowhere`. A label is a name with `:` at the beginning of a line."
+SOURCE = "This is a source and no object file: assemble it by `yas` first. As an object file it puts no byte anywhere."
+# A file, the options of the call, a text, and each line on it.
+FILES = [
+    ("labels on right lines", "f.ys", (), "start: nop\nloop: jmp loop\n irmovq 1 %rax\n", [f"3:11: {NO_COMMA}"]),
+    ("a label that no line defines, and a line behind it", "f.ys", (), " jmp nowhere\n irmovq 1 %rax\n",
+        [f"1: {NO_LABEL}", f"2:11: {NO_COMMA}"]),
+    ("a label that is defined again on a faulty line", "f.ys", (), "start: nop\nstart: irmovq 1 %rax\n", [f"2:17: {NO_COMMA}"]),
+    ("a label that three lines define", "f.ys", (), "end: nop\n nop\nend: halt\nend: halt\n",
+        [f"{line}: `end` is defined a second time; its first definition is in line 1." for line in (3, 4)]),
+    ("past the end of the memory", "f.ys", ("--mem", "64"), " nop\n .pos 60\n irmovq $1, %rax\n jmp nowhere\n",
+        ["3: The line goes past the end of the memory, which has 64 bytes (`--mem`).", f"4: {NO_LABEL}"]),
+    ("an address that has a byte", "f.ys", (), " nop\n .pos 0\n halt\n",
+        ["3: The line puts a byte at an address that has one already: a `.pos` before it goes back."]),
+    ("four faulty lines of an object file", "f.yo", (),
+        "0x000: 00 |\n0x001: 0 |\n# nothing\n0x003 00\n0x2000: 00 |\n\n0x10000000000000000: 00 |\n0x008: 00 |\n", [
+        "2: The bytes have a hex digit too few: each byte has two.",
+        "4: A line of an object file is `0xADDRESS: BYTES`, both in hex digits, and then its end or `|` and a comment.",
+        "5: A byte of this line is past the end of the memory, which has 8192 bytes (`--mem`).",
+        "7: The address has more than 16 hex digits."]),
+    ("an object file for another memory", "f.yo", ("--mem", "64"), "0x000: 00 |\n0x03f: 0000 |\n",
+        ["2: A byte of this line is past the end of the memory, which has 64 bytes (`--mem`)."]),
+    ("a source of iaddq", "f.yo", (), "# nothing\n\n  iaddq $1, %rax\n", [f"3: {SOURCE}"]),
+]
+
+
+@cases(FILES)
+def test_files(row, y86_tell):
+    _, name, options, text, wanted = row
+    answer = y86_tell("fault", name, *options, files={name: text})
+    same((answer.status, lines_of(answer)), (5, wanted))
+
+
+# A call of `y86`, options, a text, and the word by which it refuses the text.
+REASONS = [
+    ("HCL: Syntax", "check pipe f.hcl", (), "word aluA = ;\n", "Syntax"),
+    ("HCL: BadByte", "check pipe f.hcl", (), "word aluA = \u20131;\n", "BadByte"),
+    ("HCL: NumberTooWide", "check pipe f.hcl", (), "word aluA = 9223372036854775808;\n", "NumberTooWide"),
+    ("HCL: DepthOver64", "check pipe f.hcl", (), f"bool set_cc = {'(' * 65}0{')' * 65};\n", "DepthOver64"),
+    ("HCL: NamesOver256", "check pipe f.hcl", (), f"bool set_cc = {' || '.join(f'a{n}' for n in range(256))};\n", "NamesOver256"),
+    ("HCL: Unknown", "check pipe f.hcl", (), in_front("word aluC = 1;\n"), "Unknown"),
+    ("HCL: Twice", "check pipe f.hcl", (), in_front("bool set_cc = 0;\nbool set_cc = 1;\n"), "Twice"),
+    ("HCL: Missing", "check pipe f.hcl", (), without(design("std"), ["set_cc"]), "Missing"),
+    ("HCL: Redefines", "check pipe f.hcl", (), in_front("word IRET = 9;\n"), "Redefines"),
+    ("HCL: KindMismatch", "check pipe f.hcl", (), in_front("bool set_cc = 2;\n"), "KindMismatch"),
+    ("HCL: Cycle", "check pipe f.hcl", (), in_front("word aluB = aluA;\nword aluA = aluB;\n"), "Cycle"),
+    ("assembly: Syntax", "yas f.ys", (), " irmovq 1 %rax\n", "Syntax"),
+    ("assembly: BadByte", "yas f.ys", (), " irmovq \u20131, %rax\n", "BadByte"),
+    ("assembly: NumberTooWide", "yas f.ys", (), " .byte 256\n", "NumberTooWide"),
+    ("assembly: LabelTwice", "yas f.ys", (), "end: halt\nend: halt\n", "LabelTwice"),
+    ("assembly: LabelUnknown", "yas f.ys", (), " jmp nowhere\n", "LabelUnknown"),
+    ("assembly: OutsideMemory", "yas f.ys", ("--mem", "64"), " .pos 60\n irmovq $1, %rax\n", "OutsideMemory"),
+    ("assembly: Overlap", "yas f.ys", (), " nop\n .pos 0\n nop\n", "Overlap"),
+    ("object text: Syntax", "yis f.yo", (), "0x000 00\n", "Syntax"),
+    ("object text: OddDigits", "yis f.yo", (), "0x000: 0 |\n", "OddDigits"),
+    ("object text: OutsideMemory", "yis f.yo", ("--mem", "64"), "0x040: 00 |\n", "OutsideMemory"),
+    ("object text: AddressTooWide", "yis f.yo", (), "0x10000000000000000: 00 |\n", "AddressTooWide"),
+]
+
+
+@cases(REASONS)
+def test_reasons(row, y86, y86_tell):
+    _, call, options, text, wanted = row
+    *_, name = call.split()
+    refused = y86(*call.split(), *options, files={name: text}).text()
+    same((refused[0], re.search(r": (\w+)", refused[2])[1]), (5, wanted))
+    datapath = ("pipe",) if name == "f.hcl" else ()
+    same(json.loads(y86_tell("fault", name, *datapath, *options, "--json").out)["faults"][0]["reason"], wanted)
+
+
+# A file, a text, and the other places that the first fault refers to.
+RELATED = [
+    ("the brackets that are open, the innermost first", "f.hcl", "word aluA = [\n  (1 : 2;\n",
+        [("bracket", "(", 2, 3), ("bracket", "[", 1, 13), ("before", "1", 2, 4)]),
+    ("a first definition", "f.hcl", in_front("word aluA = 0;\nbool set_cc = 0;\nbool set_cc = 1;\n"), [("first", "set_cc", 2, 6)]),
+    ("a first definition behind a use", "f.hcl", in_front("bool M_stall = set_cc && 0;\nbool set_cc = 0;\nbool set_cc = 1;\n"),
+        [("first", "set_cc", 2, 6)]),
+    ("a cycle", "f.hcl", in_front("bool set_cc = 0; word aluB = aluA;\nword aluA = aluB;\n"), [("cycle", "aluA", 2, 6), ("cycle", "aluB", 1, 23)]),
+    ("a first label", "f.ys", " nop\nend: halt\nend: halt\n", [("first", "end", 2, 0)]),
+]
+
+
+@cases(RELATED)
+def test_related_places(row, y86_tell):
+    _, name, text, wanted = row
+    related = json.loads(y86_tell("fault", name, "--json", files={name: text}).out)["faults"][0]["related"]
+    same([(it["role"], it["text"], it["line"], it["column"]) for it in related], wanted)
+
+
+# A text of HCL, and what is at the place of its fault.
+FOUND = [
+    ("a byte that isn't ASCII", "word aluA = \u20131; # the rest\n", "\u00e2"),
+    ("a byte that begins no token", "word aluA = ~1; # the rest\n", "~"),
+    ("a number", "word 1 = 2;\n", "1"),
+    ("the end", "word aluA =\n", ""),
+]
+
+
+@cases(FOUND)
+def test_found(row, y86_tell):
+    _, text, wanted = row
+    same(json.loads(y86_tell("fault", "f.hcl", "--json", files={"f.hcl": text}).out)["faults"][0]["found"], wanted)
 
 
 def test_json(y86_tell):
