@@ -31,7 +31,7 @@ static PIPE_FETCH: [Signal; 13] = [
     },
     Signal {
         name: "instr_valid",
-        meaning: "Whether there is such an instruction. Only the file's own `f_stat` reads it.",
+        meaning: "Whether there is such an instruction. Only the file's own status signal reads it.",
     },
     Signal {
         name: "f_stat",
@@ -39,11 +39,11 @@ static PIPE_FETCH: [Signal; 13] = [
     },
     Signal {
         name: "need_regids",
-        meaning: "Whether the instruction has a register byte. `f_valC` and `f_valP` depend on it.",
+        meaning: "Whether the instruction has a register byte. Its constant and the next address depend on it.",
     },
     Signal {
         name: "need_valC",
-        meaning: "Whether the instruction has a constant. `f_valC` and `f_valP` depend on it.",
+        meaning: "Whether the instruction has a constant. The constant and the next address depend on it.",
     },
     Signal {
         name: "f_predPC",
@@ -111,19 +111,19 @@ static PIPE_DECODE: [Signal; 8] = [
 static PIPE_EXECUTE: [Signal; 8] = [
     Signal {
         name: "aluA",
-        meaning: "The first operand of the ALU: `e_valE` is `aluB` op `aluA`.",
+        meaning: "The first operand of the ALU, whose result is `aluB` op `aluA`.",
     },
     Signal {
         name: "aluB",
-        meaning: "The second operand of the ALU: `e_valE` is `aluB` op `aluA`.",
+        meaning: "The second operand of the ALU, whose result is `aluB` op `aluA`.",
     },
     Signal {
         name: "alufun",
-        meaning: "The function of the ALU: `E_ifun` of an OPq, and `ALUADD` for all others.",
+        meaning: "The function of the ALU: the ifun of an OPq, and `ALUADD` for all others.",
     },
     Signal {
         name: "set_cc",
-        meaning: "Whether the flags are set: for an OPq, unless an older instruction in M or W stops the machine.",
+        meaning: "Whether the flags are set: for an OPq. In PIPE, not if an older instruction in M or W stops the machine.",
     },
     Signal {
         name: "e_valA",
@@ -155,7 +155,7 @@ static PIPE_MEMORY: [Signal; 6] = [
     },
     Signal {
         name: "mem_write",
-        meaning: "Whether memory is written. The word is `M_valA`.",
+        meaning: "Whether memory is written. In PIPE the word is `M_valA`.",
     },
     Signal {
         name: "m_stat",
@@ -191,7 +191,7 @@ static PIPE_WRITE_BACK: [Signal; 5] = [
     },
     Signal {
         name: "Stat",
-        meaning: "The status of the machine: that of the instruction in W, and `SAOK` for a bubble.",
+        meaning: "The status of the machine. In PIPE it is that of the instruction in W, and `SAOK` for a bubble.",
     },
 ];
 

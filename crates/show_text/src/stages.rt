@@ -111,7 +111,12 @@ fn second_operand(term: AluBColumn) -> &'static str {
     }
 }
 
-fn execute(alloc: Global, out: &mut Vec<String>, row: &Row) -> Result<(), AllocError> {
+fn execute(
+    alloc: Global,
+    out: &mut Vec<String>,
+    row: &Row,
+    has_condition: bool,
+) -> Result<(), AllocError> {
     if let Some(first) = first_operand(row.alu_a) {
         let second = second_operand(row.alu_b);
         let operation = if row.selects { "OP" } else { "+" };
@@ -122,7 +127,7 @@ fn execute(alloc: Global, out: &mut Vec<String>, row: &Row) -> Result<(), AllocE
     if row.sets_flags {
         put_fixed(alloc, out, "Set CC")?;
     }
-    if row.conditional || row.next == NextPcColumn::Branch {
+    if has_condition {
         put_fixed(alloc, out, "Cnd <- Cond(CC, ifun)")?;
     }
     Ok(())
@@ -138,18 +143,29 @@ fn memory(alloc: Global, out: &mut Vec<String>, row: &Row) -> Result<(), AllocEr
     }
 }
 
-fn update_pc(alloc: Global, out: &mut Vec<String>, row: &Row) -> Result<(), AllocError> {
+fn update_pc(
+    alloc: Global,
+    out: &mut Vec<String>,
+    row: &Row,
+    has_condition: bool,
+) -> Result<(), AllocError> {
     put_fixed(
         alloc,
         out,
         match row.next {
             NextPcColumn::Itself => "the machine stops with status HLT",
             NextPcColumn::Fall => "PC <- valP",
-            NextPcColumn::Branch => "PC <- Cnd ? valC : valP",
-            NextPcColumn::Target => "PC <- valC",
+            NextPcColumn::Branch if has_condition => "PC <- Cnd ? valC : valP",
+            NextPcColumn::Branch | NextPcColumn::Target => "PC <- valC",
             NextPcColumn::Loaded => "PC <- valM",
         },
     )
+}
+
+/// Whether the instruction does what its condition says: a conditional move, or a jump other than `jmp`.
+fn has_condition(instruction: &Instruction) -> bool {
+    let row = &instruction.row;
+    instruction.ifun != 0 && (row.conditional || row.next == NextPcColumn::Branch)
 }
 
 /// The steps of a stage for an instruction. Stages are numbered from 0.
@@ -159,6 +175,7 @@ pub fn steps_of(
     stage: usize,
 ) -> Result<Vec<String>, AllocError> {
     let row = &instruction.row;
+    let has_condition = has_condition(instruction);
     let mut out: Vec<String> = Vec::new(alloc);
     match stage {
         0 => fetch(alloc, &mut out, row)?,
@@ -166,14 +183,15 @@ pub fn steps_of(
             put_read(alloc, &mut out, "valA", row.src_a)?;
             put_read(alloc, &mut out, "valB", row.src_b)?;
         }
-        2 => execute(alloc, &mut out, row)?,
+        2 => execute(alloc, &mut out, row, has_condition)?,
         3 => memory(alloc, &mut out, row)?,
         4 => {
-            let before = if row.conditional { "if (Cnd) " } else { "" };
+            let is_move = has_condition && row.conditional;
+            let before = if is_move { "if (Cnd) " } else { "" };
             put_write(alloc, &mut out, before, row.dst_e, "valE")?;
             put_write(alloc, &mut out, "", row.dst_m, "valM")?;
         }
-        _ => update_pc(alloc, &mut out, row)?,
+        _ => update_pc(alloc, &mut out, row, has_condition)?,
     }
     Ok(out)
 }
