@@ -7,8 +7,8 @@ import re
 
 import pytest
 
-from helpers.cases import cases
-from helpers.designs import design, example, replaced
+from helpers.cases import cases, same
+from helpers.designs import changed, design, example, replaced
 from helpers.rows import broken, datapath
 
 # The row, the instruction of the counterexample, and the wrong signal as the page of a refusal says it.
@@ -85,6 +85,99 @@ def test_what_was_before(y86_tell):
     assert "\n    The instruction before: ret\n    The instruction: halt\n" in out
 
 
+# A datapath, a change of the book's design, and what is said of the smallest counterexample above its signals.
+SITUATIONS = [
+    ("two registers", "seq", {"set_cc": "@ && !(rA == RRCX && rB == RRDX)"}, ["The instruction: addq, rA %rcx, rB %rdx"]),
+    ("rA isn't named", "seq", {"dstE": "[ icode == IIRMOVQ && rA == RNONE : RRSP; @ ]"}, ["The instruction: irmovq, rB %rax"]),
+    ("an invalid instruction", "seq", {"Stat": "[ icode == 15 : SAOK; @ ]"}, ["The instruction: an invalid one"]),
+    ("a jump that is taken", "seq", {"new_pc": "[ icode == IJXX && ifun != UNCOND : valP; @ ]"}, ["The instruction: jle, its condition holds"]),
+    ("a move that is done", "seq", {"dstE": "[ icode == IRRMOVQ && ifun == 3 : RNONE; @ ]"}, ["The instruction: cmove, rA %rax, rB %rax, its condition holds"]),
+    # a jmp has no condition
+    ("a jmp", "seq", {"new_pc": "[ icode == IJXX : valP; @ ]"}, ["The instruction: jmp"]),
+    ("one word is below another", "seq", {"set_cc": "@ && !(valA < valB)"}, ["The instruction: addq, rA %rax, rB %rax", "valA is below valB"]),
+    ("one word isn't below another", "seq", {"set_cc": "@ && valA < valB"}, ["The instruction: addq, rA %rax, rB %rax", "valA isn't below valB"]),
+    ("two words differ", "seq", {"set_cc": "@ && valA == valB"}, ["The instruction: addq, rA %rax, rB %rax", "valA doesn't equal valB"]),
+    ("before it a jump that isn't taken", "seqplus", {"pc": "[ pIcode == IJXX : pValC; @ ]"},
+        ["The instruction before: jXX, its condition fails", "The instruction: halt"]),
+    ("before it a jump that is taken", "seqplus", {"pc": "[ pIcode == IJXX : pValP; @ ]"},
+        ["The instruction before: jXX, its condition holds", "The instruction: halt"]),
+    # (of a move nothing says whether it was conditional)
+    ("before it a move", "seqplus", {"pc": "[ pIcode == IRRMOVQ : pValC; @ ]"}, ["The instruction before: rrmovq", "The instruction: halt"]),
+]
+
+
+def changed_book(path, bodies):
+    return changed(design({"seq": "seq", "seqplus": "seq_plus"}[path]), **bodies)
+
+
+@cases(SITUATIONS)
+def test_situation(row, y86_tell):
+    _, path, bodies, wanted = row
+    out = y86_tell("check", path, "d.hcl", files={"d.hcl": changed_book(path, bodies)}).text()[1]
+    same(out.partition("\nThe smallest counterexample:\n\n")[2].partition("\n\n")[0], "\n".join(f"    {it}" for it in wanted))
+
+
+# A datapath, a change of the book's design, and all that is said of the signals.
+FINDINGS = [
+    ("a register is read", "seq", {"set_cc": "@ && !(rA == RRCX && rB == RRDX)"}, """\
+    WRONG  set_cc is 0. It has to be 1.
+           It reads icode = 6 (IOPQ), rA = 1 (%rcx), rB = 2 (%rdx).
+"""),
+    ("one of two signals is right", "seq", {"mem_read": "icode in { IMRMOVQ, IPOPQ }"}, """\
+    WRONG  mem_read is 0. It has to be 1.
+           It reads icode = 9 (IRET).
+    right  mem_write is 0, as it has to be.
+"""),
+    ("an invalid instruction", "seq", {"Stat": "[ imem_error || dmem_error : SADR; icode == IHALT : SHLT; 1 : SAOK; ]"}, """\
+    WRONG  Stat is 1 (SAOK). It has to be 4 (SINS).
+           It takes case 3 of its definition, at line 70, column 71:
+               1 : SAOK;
+           It reads imem_error = 0, dmem_error = 0, icode = 15.
+"""),
+    ("the instruction before", "seqplus", {"pc": "[ pIcode == IJXX : pValC; @ ]"}, """\
+    WRONG  pc is pValC. It has to be pValP.
+           It takes case 1 of its definition, at line 6, column 13:
+               pIcode == IJXX : pValC;
+           It reads pIcode = 7 (IJXX), pCnd = 0.
+"""),
+]
+
+
+@cases(FINDINGS)
+def test_findings(row, y86_tell):
+    _, path, bodies, wanted = row
+    out = y86_tell("check", path, "d.hcl", files={"d.hcl": changed_book(path, bodies)}).text()[1]
+    same(out.partition("\nThe signals there:\n\n")[2].partition("\nAll other obligations hold.\n")[0], wanted)
+
+
+# The names by their numbers (CS:APP 3e, figures 4.2 to 4.4).
+INSTRUCTIONS = "halt nop rrmovq irmovq rmmovq mrmovq addq jmp call ret pushq popq".split()
+CODES = "IHALT INOP IRRMOVQ IIRMOVQ IRMMOVQ IMRMOVQ IOPQ IJXX ICALL IRET IPUSHQ IPOPQ".split()
+FUNCTIONS = {2: "cmovle cmovl cmove cmovne cmovge cmovg", 6: "subq andq xorq", 7: "jle jl je jne jge jg"}
+REGISTERS = "%rax %rcx %rdx %rbx %rsp %rbp %rsi %rdi %r8 %r9 %r10 %r11 %r12 %r13 %r14".split()
+MNEMONICS = [(name, icode, 0) for icode, name in enumerate(INSTRUCTIONS)]
+MNEMONICS += [(name, icode, ifun) for icode, names in FUNCTIONS.items() for ifun, name in enumerate(names.split(), 1)]
+
+
+@cases(MNEMONICS)
+def test_names_of_instructions(row, y86_tell):
+    """Of one instruction alone the status is wrong."""
+    name, icode, ifun = row
+    files = {"d.hcl": changed(design("seq"), Stat=f"[ icode == {icode} && ifun == {ifun} : SADR; @ ]")}
+    out = flat(y86_tell("check", "seq", "d.hcl", files=files).text()[1])
+    same(re.search(r"The instruction: (\w+)", out)[1], name)
+    same(re.search(r"It reads (icode = .*?, ifun = .*?),", out)[1], f"icode = {icode} ({CODES[icode]}), ifun = {ifun}")
+
+
+@pytest.mark.parametrize("number", range(15))
+def test_names_of_registers(number, y86_tell):
+    """An `addq` of one register alone doesn't set the flags."""
+    out = y86_tell("check", "seq", "d.hcl", files={"d.hcl": changed(design("seq"), set_cc=f"@ && rA != {number}")}).text()[1]
+    name = REGISTERS[number]
+    assert f"    The instruction: addq, rA {name}, rB %rax\n" in out
+    assert f"           It reads icode = 6 (IOPQ), rA = {number} ({name}).\n" in out
+
+
 def test_case_and_reads(y86_tell):
     """`popq` reads rA in the place of `%rsp`: the first case is taken, behind the design's own lines."""
     text = replaced(design("seq"), SHOWN["S4"][2])
@@ -108,27 +201,78 @@ def test_comparisons(y86_tell):
     assert first["counterexample"]["comparisons"] == [{"left": "valA", "sign": "==", "right": "valB", "holds": True}]
 
 
-# A change of seq.hcl, the obligations that are false somewhere, and the one to mend first.
+# A condition that keeps the flags, and the comparison of words where it doesn't hold: its sign, and whether it holds.
+COMPARISONS = [("valA < valB", "<", False), ("!(valA < valB)", "<", True), ("valA == valB", "==", False)]
+
+
+@cases(COMPARISONS)
+def test_comparisons_in_the_json(row, y86_tell):
+    condition, sign, holds = row
+    answer = y86_tell("check", "seq", "d.hcl", "--json", files={"d.hcl": changed(design("seq"), set_cc=f"@ && {condition}")})
+    wanted = [{"left": "valA", "sign": sign, "right": "valB", "holds": holds}]
+    same(json.loads(answer.out)["refuted"][0]["counterexample"]["comparisons"], wanted)
+
+
+# A change of seq.hcl, what is said of the obligations that are false somewhere beside the first one, the first one, and the one to mend first.
 OTHERS = [
-    ("no instruction at all", "word icode = [ 1 : INOP; ];", [f"S{number}" for number in range(1, 17)], "S1"),
-    ("two signals apart", "bool mem_read = icode in { IMRMOVQ, IPOPQ };\nbool need_valC = icode in { IIRMOVQ, IRMMOVQ, IMRMOVQ, IJXX };", ["S3", "S13"], "S3"),
+    ("no instruction at all", "word icode = [ 1 : INOP; ];", """\
+    S2: need_regids is 0. It has to be 1.
+    S3: need_valC is 0. It has to be 1.
+    S4: srcA is 15 (RNONE). It has to be 0 (%rax).
+    S5: srcB is 15 (RNONE). It has to be 0 (%rax).
+    S6: dstE is 15 (RNONE). It has to be 0 (%rax).
+    S7: dstM is 15 (RNONE). It has to be 0 (%rax).
+    S8: aluA is 0. It has to be valA.
+    S9: aluB is 0. It has to be valB.
+    S10: alufun is 0. It has to be 1.
+    S11: set_cc is 0. It has to be 1.
+    S12: mem_addr is 0. It has to be valE.
+    S13: mem_write is 0. It has to be 1.
+    S14: mem_data is 0. It has to be valA.
+    S15: Stat is 1 (SAOK). It has to be 2 (SHLT).
+    S16: new_pc is valP. It has to be valC.
+""", "S1", "S1"),
+    ("two signals apart", "bool mem_read = icode in { IMRMOVQ, IPOPQ };\nbool need_valC = icode in { IIRMOVQ, IRMMOVQ, IMRMOVQ, IJXX };", """\
+    S13: mem_read is 0. It has to be 1.
+""", "S3", "S3"),
+    ("two signals of one obligation", """bool mem_read = icode in { IMRMOVQ, IPOPQ, IRET, ICALL };
+bool mem_write = icode in { IRMMOVQ, IPUSHQ };
+bool need_valC = icode in { IIRMOVQ, IRMMOVQ, IMRMOVQ, IJXX };""", """\
+    S13: mem_read is 1. It has to be 0. mem_write is 0. It has to be 1.
+""", "S3", "S3"),
     # a store goes wrong in aluA as aluB does
     ("aluA by aluB", """word aluB = [ icode in { IMRMOVQ, IOPQ, ICALL, IPUSHQ, IRET, IPOPQ } : valB; icode in { IRRMOVQ, IIRMOVQ } : 0; ];
 word aluA = [ icode == IRMMOVQ && aluB == 0 : valA; icode in { IRRMOVQ, IOPQ } : valA; icode in { IIRMOVQ, IRMMOVQ, IMRMOVQ } : valC;
-  icode in { ICALL, IPUSHQ } : -8; icode in { IRET, IPOPQ } : 8; ];""", ["S8", "S9"], "S9"),
+  icode in { ICALL, IPUSHQ } : -8; icode in { IRET, IPOPQ } : 8; ];""", """\
+    S9: aluB is 0. It has to be valB.
+""", "S8", "S9"),
 ]
 
 
 @cases(OTHERS)
 def test_others(row, y86_tell):
-    _, change, labels, first = row
+    _, change, others, label, first = row
     files = {"d.hcl": replaced(design("seq"), change)}
     said = json.loads(y86_tell("check", "seq", "d.hcl", "--json", files=files).out)
-    assert [it["obligation"]["label"] for it in said["refuted"]] == labels
+    assert [it["obligation"]["label"] for it in said["refuted"]] == [label] + re.findall(r"S\d+", others)
     assert said["mend_first"] == first
     out = y86_tell("check", "seq", "d.hcl", files=files).text()[1]
-    assert re.findall(r"^    (S\d+):", out, flags=re.M) == labels[1:]
-    assert f"\nMend {first} first: " in out
+    said = out.partition("\nAlso false somewhere, each in a situation of its own:\n\n")[2].partition("\nA file that works")[0]
+    mend = f"Mend {first} first: its wrong signals don't depend on the wrong signals of another obligation.\n"
+    same(said, f"{others}\nAll other obligations hold.\n{mend}")
+
+
+def test_others_in_the_json(y86_tell):
+    """Each obligation has a counterexample of its own, and the values there: `call` lacks its constant, and `ret` doesn't read memory."""
+    files = {"d.hcl": replaced(design("seq"), OTHERS[1][1])}
+    first, other = json.loads(y86_tell("check", "seq", "d.hcl", "--json", files=files).out)["refuted"]
+    wanted = {"S": {"error": 0, "icode": 8, "ifun": 0, "rA": 15, "rB": 15, "cnd": 1, "derror": 0}, "comparisons": []}
+    same(first["counterexample"], wanted)
+    wanted["S"]["icode"] = 9
+    same(other["counterexample"], wanted)
+    same([(it["signal"], it["right"], it["value"], it["wanted"]) for it in other["signals"]],
+        [("mem_read", False, {"number": 0}, {"number": 1}), ("mem_write", True, {"number": 0}, {"number": 0})])
+    same([it["reads"] for it in other["signals"]], [[{"signal": "icode", "value": {"number": 9, "constant": "IRET"}}]] * 2)
 
 
 # An example, its datapath, and what the processor is called.
@@ -155,6 +299,7 @@ def test_iaddq(y86_tell):
     assert json.loads(y86_tell("check", "seq", "d.hcl", "--json", files=half).out)["names_iaddq"]
     status, out, _ = y86_tell("check", "seq", "d.hcl", "--full", files=half).text()
     assert (status, wrong_lines(out)) == (1, ["need_valC is 0. It has to be 1."])
+    assert "\n    The instruction: iaddq, " in out
 
 
 def test_iaddq_of_pipe(y86_tell):

@@ -57,6 +57,13 @@ STAGES = [
     ("ret", "ret: pops an address and goes on there.\nBytes: 90\n", [
         "fetch       icode:ifun <- M1[PC]", "            valP <- PC + 1", "decode      valA <- R[%rsp]", "            valB <- R[%rsp]",
         "execute     valE <- valB + 8", "memory      valM <- M8[valA]", "write-back  R[%rsp] <- valE", "PC update   PC <- valM"]),
+    # (figure 4.18 has no Cnd for it)
+    ("rrmovq", "rrmovq rA, rB: rB = rA.\nBytes: 20 rA:rB\n", [
+        "fetch       icode:ifun <- M1[PC]", "            rA:rB <- M1[PC + 1]", "            valP <- PC + 2", "decode      valA <- R[rA]",
+        "execute     valE <- 0 + valA", "memory      nothing", "write-back  R[rB] <- valE", "PC update   PC <- valP"]),
+    ("jmp", "jmp V: goes on at V.\nBytes: 70 V", [
+        "fetch       icode:ifun <- M1[PC]", "            valC <- M8[PC + 1]", "            valP <- PC + 9", "decode      nothing",
+        "execute     nothing", "memory      nothing", "write-back  nothing", "PC update   PC <- valC"]),
     ("jne", "jne V: goes on at V if the condition holds.\nBytes: 74 V", [
         "fetch       icode:ifun <- M1[PC]", "            valC <- M8[PC + 1]", "            valP <- PC + 9", "decode      nothing",
         "execute     Cnd <- Cond(CC, ifun)", "memory      nothing", "write-back  nothing", "PC update   PC <- Cnd ? valC : valP"]),
@@ -112,7 +119,7 @@ SIGNALS = [
     ("f_predPC", "fetch", "The predicted next PC, which F holds in the next cycle."),
     ("d_rvalB", "decode", "The word of `d_srcB` in the register file."),
     ("e_Cnd", "execute", "Whether the condition of a jump or a conditional move in E holds."),
-    ("mem_write", "memory", "Whether memory is written. The word is `M_valA`."),
+    ("mem_write", "memory", "Whether memory is written. In PIPE the word is `M_valA`."),
     ("w_dstM", "write-back", "The register that `w_valM` is written to."),
     ("W_stall", "pipeline control", "The instruction that stops the machine stays in W."),
     ("pCnd", "fetch", "Whether the condition of the instruction before held."),
