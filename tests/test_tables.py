@@ -1,6 +1,8 @@
 """Numbers that follow from the tables of signals, fields and obligations are as `tests/helpers/tables.py` writes them, and a new row changes the right ones."""
 import re
 
+import pytest
+
 from helpers import tables
 from helpers.cases import cases, same
 
@@ -80,10 +82,8 @@ def test_new_row(row, monkeypatch):
 
 def test_what_is_not_there():
     """A table that isn't found is an error that names it."""
-    try:
+    with pytest.raises(tables.Odd, match=re.escape("has it 0 times: ^nowhere = (.*)$")):
         tables.found(r"^nowhere = (.*)$", "here = 1\n")
-    except AssertionError as error:
-        same(str(error), "^nowhere = (.*)$ is there 0 times")
 
 
 def given(text, kind, datapath):

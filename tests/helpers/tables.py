@@ -22,17 +22,26 @@ def read(path):
         return it.read()
 
 
+class Odd(Exception):
+    """What a source hasn't exactly once."""
+
+    def __init__(self, pattern, times):
+        super().__init__(f"a source should have this once, and has it {times} times: {pattern}")
+
+
 def found(pattern, text):
     """The first group of the one match of a pattern."""
     places = re.findall(pattern, text, re.M | re.S)
-    assert len(places) == 1, f"{pattern} is there {len(places)} times"
+    if len(places) != 1:
+        raise Odd(pattern, len(places))
     return places[0]
 
 
 def put(pattern, new, text):
     """The text with the one match of a pattern replaced."""
     text, times = re.subn(pattern, lambda _: new, text, flags=re.M | re.S)
-    assert times == 1, f"{pattern} is there {times} times"
+    if times != 1:
+        raise Odd(pattern, times)
     return text
 
 
@@ -239,6 +248,10 @@ def made():
 
 
 if __name__ == "__main__":
-    for name, new in made().items():
+    try:
+        FILES = made()
+    except Odd as odd:
+        sys.exit(f"tables.py: nothing is written: {odd}")
+    for name, new in FILES.items():
         with open(f"{TOP}/{name}", "w", encoding="utf-8") as out:
             out.write(new)
