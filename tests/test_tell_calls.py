@@ -103,6 +103,9 @@ FAULTS = [
         (5, "f.hcl:1:6: This is a file for SEQ, not for SEQ+: SEQ has all its names, and SEQ+ lacks 1 of them, `new_pc` first.\n")),
     ("a file for SEQ+ as one for SEQ", "f.hcl", example("seq_plus"), ("seq",),
         (5, "f.hcl:6:13: This is a file for SEQ+, not for SEQ: SEQ+ has all its names, and SEQ lacks 5 of them, `pIcode` first.\n")),
+    ("the longest file of HCL", "f.hcl", example("std").ljust(65536, "#"), ("pipe",), NO_FAULT),
+    ("the longest source", "f.ys", "#" * 1048576, (), NO_FAULT),
+    ("the longest object text", "f.yo", "0x000: 00 |".ljust(1048576, "#"), (), NO_FAULT),
     # as HCL, or as object text, it would have a fault
     ("a name without an ending", "hcl", " halt\n", (), NO_FAULT),
     ("another ending", "f.HCL", " halt\n", (), NO_FAULT),
@@ -185,7 +188,8 @@ def test_accepted(row, y86_tell):
 ODD_SIZE = "the bytes of memory have to be a multiple of 8\n"
 NO_FILE = "the file can't be read\n"
 TOO_LONG = "the file is too long: over 65,536 bytes for HCL, over 1,048,576 for others\n"
-FILES = {"p.yo": "0x000: 00 |\n", "odd.yo": "0x000: 000 |\n", "std.hcl": example("std"), "long.hcl": "#" * 65537, "long.yo": "#" * 1048577}
+FILES = {"p.yo": "0x000: 00 |\n", "odd.yo": "0x000: 000 |\n", "std.hcl": example("std"), "long.hcl": "#" * 65537}
+FILES |= {"long.yo": "#" * 1048577, "long.ys": "#" * 1048577}
 # The words of a call, the status, and how standard error begins.
 REFUSED = [
     ("", 2, "error: "),
@@ -210,6 +214,7 @@ REFUSED = [
     ("fault p.yo --mem 65", 2, ODD_SIZE),
     ("fault no.hcl", 3, NO_FILE),
     ("fault long.yo", 7, TOO_LONG),
+    ("fault long.ys", 7, TOO_LONG),
     ("fault long.hcl", 7, TOO_LONG),
     ("check std.hcl", 2, "error: "),
     ("check pipe", 2, "error: "),
