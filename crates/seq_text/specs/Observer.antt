@@ -5,14 +5,12 @@ use Rattle.y86_base.specs.declared.parts.Variant.{Variant}
 use Rattle.y86_isa.specs.Machine.{is_aok}
 use Rattle.y86_isa.specs.declared.machine.Machine.{Machine}
 use Rattle.hcl_types.specs.declared.term.Term.{Term}
-use Rattle.dp_signals.specs.SeqCycle.{seq_next}
-use Rattle.dp_signals.specs.SeqEquations.{SeqSolves}
+use Rattle.hcl_types.specs.declared.table.Row.{Row}
 use Rattle.dp_signals.specs.SeqNames as seq
-use Rattle.dp_signals.specs.SeqTable.{seq_rows}
-use Rattle.seq_plus.specs.PlusCycle.{plus_next}
-use Rattle.seq_plus.specs.PlusEquations.{PlusSolves}
+use Rattle.dp_sequential.specs.Path.{SequentialPath, Solves}
+use Rattle.dp_sequential.specs.Seq.{seq_path}
 use Rattle.seq_plus.specs.PlusNames as plus
-use Rattle.seq_plus.specs.PlusTable.{plus_rows}
+use Rattle.seq_plus.specs.PlusRun.{plus_path}
 use Rattle.seq_plus.specs.declared.state.PlusState.{PlusState}
 use Rattle.pipe_stage_text.specs.Cycle.{end_line}
 use Rattle.pipe_stage_text.specs.Numbers.{number_pair}
@@ -31,20 +29,33 @@ unfoldable pub plus_lines : PlusState → (ℕ → ℕ) → Sources → List ℕ
 plus_lines t f from =
     choice_line t.previous (f plus.pc) from ++ (stage_lines (plus_signals f) from ++ state_lines t.flags (plus_signals f))
 
+-- how the cycles of a sequential datapath are shown: the sources that the picks of a file give, and the lines of a cycle
+pub record CycleText (S : Type 0) : Type 0 where
+  pub sources : List Row → List Term → (ℕ → ℕ) → Sources
+  pub lines : S → (ℕ → ℕ) → Sources → List ℕ
+
+abbrev pub seq_cycle_text : CycleText Machine
+seq_cycle_text = record { sources = seq_sources; lines = seq_lines }
+
+abbrev pub plus_cycle_text : CycleText PlusState
+plus_cycle_text = record { sources = plus_sources; lines = plus_lines }
+
 -- the state before a cycle, its lines, and the state after it
+abbrev pub Shows : {S : Type 0} → SequentialPath S → CycleText S → Variant → List Term → S → List ℕ → S → Type 0
+Shows path text v terms s lines t =
+    (f : ℕ → ℕ) × Solves path v terms s f × (lines ≡ text.lines s f (text.sources path.table terms f)) × (t ≡ path.next s f)
+
 abbrev pub SeqShows : Variant → List Term → Machine → List ℕ → Machine → Type 0
-SeqShows v terms s lines t =
-    (f : ℕ → ℕ) × SeqSolves v terms s f × (lines ≡ seq_lines s f (seq_sources seq_rows terms f)) × (t ≡ seq_next s f)
+SeqShows = Shows seq_path seq_cycle_text
 
 abbrev pub PlusShows : Variant → List Term → PlusState → List ℕ → PlusState → Type 0
-PlusShows v terms s lines t =
-    (f : ℕ → ℕ) × PlusSolves v terms s f × (lines ≡ plus_lines s f (plus_sources plus_rows terms f)) × (t ≡ plus_next s f)
+PlusShows = Shows plus_path plus_cycle_text
 
 abbrev pub seq_stat : Machine → Stat
-seq_stat s = s.stat
+seq_stat = seq_path.stat
 
 abbrev pub plus_stat : PlusState → Stat
-plus_stat s = s.stat
+plus_stat = plus_path.stat
 
 -- ---- a run of either machine: Shows says what a cycle does and prints, and stat is the status of a state
 

@@ -7,8 +7,9 @@ mod plus;
 mod seq;
 mod shown;
 mod signals;
+mod watching;
 
 pub use laws::{law_of_changes, law_of_sources, law_of_watching};
-pub use plus::watch_plus;
-pub use seq::watch_seq;
+pub use shown::ShownDatapath;
 pub use signals::{Signals, Sources};
+pub use watching::watch_sequential;

@@ -13,10 +13,11 @@ use cli_plans::{
     Datapath, FILE_LIMIT, OrderedDesign, StopReason, load_image, pipe_file, read_file, seq_file,
     status, write_answer,
 };
-use dp_signals::constant_words;
+use dp_signals::{SEQ_ROWS, SeqState, constant_words};
 use hcl_compile::compile;
 use pipe_stage_text::{ObservedRun, ProcessorDesign, WatchRequest, watch_run};
-use seq_text::{watch_plus, watch_seq};
+use seq_plus::{PLUS_ROWS, PlusState};
+use seq_text::watch_sequential;
 use std::alloc::Global;
 use wb_io::{Files, Sink};
 use y86_base::{Image, Memory};
@@ -69,8 +70,12 @@ fn watch(
     };
     match request.processor {
         Processor::Pipe => watch_run(alloc, &processor, &mut compiled, object, watched),
-        Processor::Seq => watch_seq(alloc, &processor, &mut compiled, watched),
-        Processor::SeqPlus => watch_plus(alloc, &processor, &mut compiled, watched),
+        Processor::Seq => {
+            watch_sequential::<SeqState, _, SEQ_ROWS>(alloc, &processor, &mut compiled, watched)
+        }
+        Processor::SeqPlus => {
+            watch_sequential::<PlusState, _, PLUS_ROWS>(alloc, &processor, &mut compiled, watched)
+        }
     }
 }
 
