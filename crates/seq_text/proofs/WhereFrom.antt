@@ -1,5 +1,5 @@
 -- The value of a signal is that of the name that its definition picks.
-use Rattle.std.proofs.Common.{◌≡◌, ℕ, List, Option, None, Some, slice_get, ◌∙◌}
+use Rattle.std.proofs.Common.{slice_get, ◌∙◌}
 use Rattle.dp_signals.specs.Equations.{defined_value, rule_of}
 use Rattle.dp_signals.specs.PipeEquations.{constants}
 use Rattle.dp_signals.specs.SeqEquations.{seq_given}

@@ -1,6 +1,6 @@
 -- The lines of one cycle of SEQ or SEQ+: a line for each stage (CS:APP 3e, figures 4.27 to 4.31), the flags, and the
 -- changes.
-use Rattle.std.specs.Prelude.{ℕ, true, ◌==◌, List, [], ◌++◌, codes, Option, None, if◌then◌else◌}
+use Rattle.std.specs.Prelude.{ℕ, true, ◌==◌, List, ◌++◌, codes, Option, None, if◌then◌else◌}
 use Rattle.y86_base.specs.Words.{set}
 use Rattle.y86_base.specs.declared.parts.Flags.{Flags}
 use Rattle.y86_isa.specs.Blocks.{data_store}

@@ -10,7 +10,7 @@ loop-k-preserved g c =
     let went = c.in-Ok.ensures.cycle in
     record {
       watches = watches_more _ _ _ _ c.loop-k.k c.loop-k.s.state _ _ _ went.0 before.watches
-          (ap is_aok (sym c.status_in.ensures) ∙ (sym c.is_aok_stat.ensures ∙ c.if-not-is_aok_stat.false)) went.1 went.2;
+          (ap is_aok (sym c.status_in-stat.ensures) ∙ (sym c.is_aok_stat.ensures ∙ c.if-not-is_aok_stat.false)) went.1 went.2;
       kept = c.in-Ok.ensures.kept;
       fits = rw c.in-Ok.ensures.same before.fits;
     }
@@ -18,12 +18,12 @@ loop-k-preserved g c =
 pub returns-then-not-is_aok_stat : goal.returns-then-not-is_aok_stat
 returns-then-not-is_aok_stat g c =
     shows_run _ _ _ _ _ _ _ _ (λ (w : ObservedRun). w.text.items) (λ (w : ObservedRun). w.end) c.finished.result
-    (rw c.status_in.ensures c.finished.ensures.text) (rw c.status_in.ensures c.finished.ensures.end)
+    (rw (← c.status_in-stat.ensures) c.finished.ensures.text) (rw (← c.status_in-stat.ensures) c.finished.ensures.end)
     (before_limit _ _ _ _ _ _ _ _ c.loop-k-test.true c.loop-k.invariant.watches
-    (ap is_aok (sym c.status_in.ensures) ∙ (sym c.is_aok_stat.ensures ∙ c.if-not-is_aok_stat.true)))
+    (ap is_aok (sym c.status_in-stat.ensures) ∙ (sym c.is_aok_stat.ensures ∙ c.if-not-is_aok_stat.true)))
 
 pub returns : goal.returns
 returns g c =
     shows_run _ _ _ _ _ _ _ _ (λ (w : ObservedRun). w.text.items) (λ (w : ObservedRun). w.end) c.finished-2.result
-    (rw c.status_in-2.ensures c.finished-2.ensures.text) (rw c.status_in-2.ensures c.finished-2.ensures.end)
+    (rw (← c.status_in-stat-2.ensures) c.finished-2.ensures.text) (rw (← c.status_in-stat-2.ensures) c.finished-2.ensures.end)
     (at_limit _ _ _ _ _ _ _ _ (omega (arith, c.loop-k-test.false, c.loop-k.auto.k-end)) c.loop-k.invariant.watches)
