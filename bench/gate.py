@@ -2,8 +2,8 @@
 """Measures a run of the gate: `python3 bench/gate.py [--crates] [COMMAND ..]`, by default `rt ci`.
 
 It prints rows of the table of docs/BENCH.md: the time, the processor time, the largest process, the time of each kind of work, and the longest path of
-crates that have to be proved one after another. With `--crates` it also prints the figures of each crate. The output of the command goes to standard error.
-`./prove` can be measured too.
+crates that have to be proved one after another, by processor time. With `--crates` it also prints the figures of each crate. The output of the command
+goes to standard error. `./prove` can be measured too.
 
 Every second it looks at the provers of the run. A prover is a process with the argument `--crate-name`, so the processor time of a crate can lack the last
 second of each of its processes. The processor time of the whole run is exact.
@@ -83,13 +83,13 @@ def longest_path(below, seconds):
     return max(ends.values(), key=lambda it: it[0])
 
 
-def spans(provers):
-    """The seconds from the first to the last sight of each crate's proof."""
-    times = {}
+def proofs_of(provers):
+    """The processor seconds of each crate's proof. One process proves a crate, so that is how long the proof takes where a processor is free for it."""
+    found = {}
     for it in provers:
         if it.kind == "proofs":
-            times.setdefault(it.crate, []).extend((it.first, it.last))
-    return {crate: max(seen) - min(seen) for crate, seen in times.items()}
+            found[it.crate] = found.get(it.crate, 0.0) + it.seconds
+    return found
 
 
 def minutes(seconds):
@@ -105,18 +105,18 @@ def report(provers, wall, processor):
     if provers:
         largest = max(provers, key=lambda it: it.memory)
         print(f"| the largest process | {largest.memory / 1000:.1f} GB, of `{largest.crate}` |")
-        seconds, path = longest_path(needs(), spans(provers))
+        seconds, path = longest_path(needs(), proofs_of(provers))
         print(f"| the longest path of crates | {minutes(seconds)}: {', '.join(f'`{it}`' for it in path)} |")
 
 
 def report_crates(provers):
-    """Prints a row for each crate: seconds of its proof, processor seconds of each kind of work, and peak memory in MB."""
-    wall = spans(provers)
-    print(f"crate seconds {' '.join(KINDS)} memory")
-    for crate in sorted({it.crate for it in provers}, key=lambda it: -wall.get(it, 0)):
+    """Prints a row for each crate: processor seconds of each kind of work, and peak memory in MB."""
+    proofs = proofs_of(provers)
+    print(f"crate {' '.join(KINDS)} memory")
+    for crate in sorted({it.crate for it in provers}, key=lambda it: -proofs.get(it, 0)):
         own = [it for it in provers if it.crate == crate]
         kinds = " ".join(f"{sum(it.seconds for it in own if it.kind == kind):.0f}" for kind in KINDS)
-        print(f"{crate} {wall.get(crate, 0):.0f} {kinds} {max(it.memory for it in own)}")
+        print(f"{crate} {kinds} {max(it.memory for it in own)}")
 
 
 def main():
