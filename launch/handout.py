@@ -49,30 +49,36 @@ It runs on Linux on x86-64 and needs the C library alone{libc}.{python}
 
 ## Begin here
 
-    ./y86 yis examples/programs/asum.yo
-    ./y86 check pipe examples/designs/std.hcl{calls}
+Run a program:
 
-The first runs a program. The second decides whether the book's pipeline meets all obligations.{browser} Then read the pages, in this order:
+    ./y86 yis examples/programs/asum.yo
+
+Is the book's pipeline right for every program?
+
+    ./y86 check pipe examples/designs/std.hcl
+{calls}{browser}
+Then read the pages, in this order:
 
 {pages}
 
-[examples/README.md](examples/README.md) lists the programs and the processors.{left_out}
+[examples/README.md](examples/README.md) lists the programs and the processors.
+The pages name some files that aren't here: they are in the repository{left_out}.
 
 ## What was proved
 
 {proved}
 
-The {crates} crates that it stands on were proved on {date}{toolchain}, from {commit}.
+The {crates} crates that the programs need were proved on {date}{toolchain}, from {commit}.
 
 ## Is this what was built?
 
     $ sha256sum {names}
     {sums}
 """
-# What the README shows of a program besides.
+# What the README shows of a program, and asks.
 CALLS = {
-    "y86-stages": "\n    ./y86-stages examples/designs/std.hcl examples/programs/load_use.yo --diagram",
-    "y86-tell": "\n    ./y86-tell check pipe examples/designs/stall_and_bubble.hcl",
+    "y86-stages": "\nWhich instruction is where in each clock cycle?\n\n    ./y86-stages examples/designs/std.hcl examples/programs/load_use.yo --diagram\n",
+    "y86-tell": "\nWhy is this pipeline refused?\n\n    ./y86-tell check pipe examples/designs/stall_and_bubble.hcl\n",
 }
 
 
@@ -155,11 +161,11 @@ def readme(here, programs, built, files, has_solutions, has_page):
     pages = [f"- [docs/{name}](docs/{name}): {what}" for name, what in PAGES.items() if f"docs/{name}" in files]
     return README.format(
         libc=libc_of(built.values()),
-        python=" `./y86-lab` needs Python 3 besides." if "y86-lab" in files else "",
+        python=" `./y86-lab` also needs Python 3.9 or later, and its command `grade` 3.11." if "y86-lab" in files else "",
         calls="".join(CALLS.get(name, "") for name in built),
-        browser=" `y86.html` does the same in a browser: open it." if has_page else "",
+        browser="\n`y86.html` does the same in a browser: open it.\n" if has_page else "",
         pages="\n".join(pages),
-        left_out="" if has_solutions else "\nSolutions of the book's exercises were left out, and the pages name some files that aren't here.",
+        left_out="" if has_solutions else ", or solve exercises of the book",
         proved=what_is_proved(here),
         crates=len(crates_of(here, programs)),
         date=time.strftime("%Y-%m-%d", time.gmtime(max(os.stat(it).st_mtime for it in built.values()))),
