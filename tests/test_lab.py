@@ -274,8 +274,8 @@ WITNESS = [
     (("witness", "flags.hcl"), 0, b"flags.hcl: " + YES + b"So no program without `iaddq` in which no instruction overwrites one of the next three shows a mistake.\n"
         b"`iaddq` wasn't checked: `--full` checks it too.\n", b""),
     (("witness", "unseen.hcl", "--tries", "1"), 1, b"unseen.hcl: no O25\nTrying up to 1 programs until one shows it, for at most 60 s.\n"
-        b"None of 1 programs shows the mistake. The rule is broken all the same: a program that shows it may be rare,\n"
-        b"or there is none, for a No promises that the rule fails in the situation that it shows, and no more.\n", b""),
+        b"None of 1 programs shows the mistake. The obligation fails all the same: a program that shows it may be rare,\n"
+        b"or there is none. A `no` promises that the obligation fails in the situation that it shows, and no more.\n", b""),
     (("witness", "stall_and_bubble.hcl", "--tries", "0"), 2, b"", USAGE_WITNESS + b"argument --tries: 0: a number from 1 to 1000000 is wanted\n"),
     (("witness", "stall_and_bubble.hcl", "--tries", "9" * 20), 2, b"",
         USAGE_WITNESS + b"argument --tries: 99999999999999999999: a number from 1 to 1000000 is wanted\n"),

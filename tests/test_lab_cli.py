@@ -98,7 +98,7 @@ def test_an_output_that_nobody_reads():
     assert done.stderr == "" and done.returncode in (0, 1)
 
 
-ENDS = [(LabError("told", 5), 5, "told\n"), (RecursionError(), 1, "the definitions stand on each other too deeply; what ./y86 check answers holds\n"),
+ENDS = [(LabError("told", 5), 5, "told\n"), (RecursionError(), 1, "the definitions depend on each other too deeply for this command; ./y86 check can answer\n"),
     (KeyboardInterrupt(), 130, ""), (OSError(28, "No space left on device"), 4, "standard output: No space left on device\n")]
 
 

@@ -126,7 +126,7 @@ def main() -> int:
     except LabError as ended:
         return say(str(ended), ended.status)
     except RecursionError:
-        return say("the definitions stand on each other too deeply; what ./y86 check answers holds", REFUSED)
+        return say("the definitions depend on each other too deeply for this command; ./y86 check can answer", REFUSED)
     except KeyboardInterrupt:
         return INTERRUPTED
     except BrokenPipeError:

@@ -39,24 +39,37 @@ MEM = Option("--mem", "N", "the size of the memory in bytes: a multiple of 8 fro
 LIMIT = Option("--limit", "N", "the most steps or cycles: 1 to 100000000; 10000 if absent")
 TRACE = Option("--trace", "", "a line for each instruction that retires")
 CHECKED = Option("--checked", "", "the check's answer first; after a no nothing else")
-CERT = Option("--cert", "", "check pipe: a certificate in the place of a yes")
+CERT = Option("--cert", "", "check pipe: a certificate in place of a yes")
 FROM = Option("--from", "N", "the first cycle to show")
 TO = Option("--to", "N", "the last cycle to show")
 DIAGRAM = Option("--diagram", "", "a diagram: a row for each instruction, a column for each cycle")
-SEQ = Option("--seq", "", "SEQ in the place of PIPE")
-SEQ_PLUS = Option("--seqplus", "", "SEQ+ in the place of PIPE")
+SEQ = Option("--seq", "", "SEQ in place of PIPE")
+SEQ_PLUS = Option("--seqplus", "", "SEQ+ in place of PIPE")
 JSON = Option("--json", "", "the answer as JSON")
 UNCHECKED = Option("--unchecked", "", "don't ask the check whether the theorem covers the run")
 
 STATUSES = (
     (0, "done; a run ended at a halt"),
-    (1, "a run ended with another status, or at its limit; a check ended with no; a sample found something"),
-    (2, "the arguments are no command"),
+    (
+        1,
+        "a run ended with another status, or at its limit; a check ended with no; a sample found something; "
+        "the reports of big differ",
+    ),
+    (2, "the arguments are invalid"),
     (3, "a file could not be read"),
     (4, "standard output could not be written"),
     (5, "a file has a fault"),
     (6, "out of memory"),
     (7, "a file is too long"),
+)
+TELL_STATUSES = (
+    (0, "done; check: yes; run: both runs end alike"),
+    (
+        1,
+        "check: no; program: it doesn't find that the theorem covers the program; "
+        "run: the runs differ, or one reaches its limit; show: there is no such word",
+    ),
+    *STATUSES[2:],
 )
 
 Y86 = Program(
@@ -65,15 +78,15 @@ Y86 = Program(
     "docs/COMMANDS.md",
     (
         Form("yas", "ASM", (FULL, MEM), "prints the object file of an assembly file"),
-        Form("yis", "OBJ", (FULL, MEM, LIMIT), "runs an object file by instructions"),
-        Form("hcl", "HCL", (), "prints an HCL file in its one form"),
+        Form("yis", "OBJ", (FULL, MEM, LIMIT), "runs an object file, one instruction after another"),
+        Form("hcl", "HCL", (), "prints an HCL file in one standard layout"),
         Form("ssim", "HCL OBJ", (FULL, MEM, LIMIT), "runs an object file on SEQ"),
         Form("ssimp", "HCL OBJ", (FULL, MEM, LIMIT), "runs an object file on SEQ+"),
         Form("psim", "HCL OBJ", (FULL, MEM, LIMIT, TRACE, CHECKED), "runs an object file on PIPE"),
-        Form("big", "N HCL", (FULL,), "runs a drawn program of N instructions by instructions and on PIPE"),
-        Form("check", "seq|seqplus|pipe HCL", (FULL, CERT), "decides whether the obligations hold of the file"),
+        Form("big", "N HCL", (FULL,), "runs a random program of N instructions, one after another and on PIPE"),
+        Form("check", "seq|seqplus|pipe HCL", (FULL, CERT), "decides whether the file meets the obligations"),
         Form("recheck", "HCL CERT", (FULL,), "checks a certificate of the file"),
-        Form("sample", "HCL SEED COUNT", (FULL,), "tries COUNT situations, drawn from SEED, on PIPE's obligations"),
+        Form("sample", "HCL SEED COUNT", (FULL,), "tries PIPE's obligations at COUNT random situations from SEED"),
         Form("aig", "HCL", (FULL,), "writes the obligations of PIPE in AIGER"),
         Form("aigrun", "AAG SEED", (), "runs an AIGER file on 512 vectors"),
     ),
@@ -104,6 +117,7 @@ TELL = Program(
         Form("run", "HCL OBJ", (FULL, MEM, LIMIT, JSON, UNCHECKED), "says where a program goes wrong on a pipeline"),
         Form("show", "[WORD]", (JSON,), "says what an obligation, an instruction, a signal or a kind of fault is"),
     ),
+    TELL_STATUSES,
 )
 RECHECK = Program(
     "tools/y86-recheck",

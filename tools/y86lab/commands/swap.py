@@ -16,7 +16,7 @@ from ..errors import DONE, FAULT, LabError
 def add_arguments(parser: argparse.ArgumentParser) -> None:
     parser.add_argument("file", metavar="HCL", help="the file whose definitions are replaced")
     parser.add_argument("definitions", metavar="DEFINITIONS", help="a file with the new definitions")
-    parser.add_argument("-i", "--in-place", action="store_true", help="write the file in the place of printing it")
+    parser.add_argument("-i", "--in-place", action="store_true", help="write the file in place of printing it")
 
 
 def run(arguments: argparse.Namespace, programs: Programs) -> int:

@@ -20,8 +20,8 @@ UNSEEN = """\
 No program shows it. `icode` isn't what was read, but every other signal is right, so the machine does what the
 instructions say. With `word icode = imem_icode;` the file is right."""
 NONE_SHOWS = """\
-None of {which} shows the mistake. The rule is broken all the same: a program that shows it may be rare,
-or there is none, for a No promises that the rule fails in the situation that it shows, and no more."""
+None of {which} shows the mistake. The obligation fails all the same: a program that shows it may be rare,
+or there is none. A `no` promises that the obligation fails in the situation that it shows, and no more."""
 
 
 def add_arguments(parser: argparse.ArgumentParser) -> None:
@@ -140,7 +140,7 @@ def print_indented(text: str) -> None:
 
 def print_difference(wanted: str, report: str) -> None:
     """The lines of the reports that differ."""
-    print("They part in these lines of the reports:\n")
+    print("The reports differ in these lines:\n")
     lines, others = wanted.splitlines(), report.splitlines()
     for sign, these, those in (("wanted", lines, others), ("got   ", others, lines)):
         for line in these:
