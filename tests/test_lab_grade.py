@@ -229,6 +229,13 @@ def test_flat_hand_ins_of_one_file(folder):
     same([each.name for each in hand_ins(folder, ["pipe.hcl"])], ["ann", "bob"])
 
 
+def test_a_folder_of_a_version_control_is_no_hand_in(folder):
+    """So that the files beside it are graded."""
+    put(folder, {"ann.hcl": "", ".DS_Store": ""})
+    os.mkdir(f"{folder}/.git")
+    same([each.name for each in hand_ins(folder, ["pipe.hcl"])], ["ann"])
+
+
 def test_links_out_of_the_folder(folder):
     """None is followed, of a file or of a folder; one inside is."""
     for name in ("in/ann", "in/bob", "in/cy", "out"):

@@ -1,6 +1,6 @@
 """The hand-ins of a class: a folder for each name, or files that begin with the names.
 
-No link out of the folder is followed.
+No link out of the folder is followed. A name that begins with a dot, such as `.git`, is no hand-in's.
 """
 from __future__ import annotations
 
@@ -28,7 +28,7 @@ def hand_ins(folder: str, wanted: Iterable[str], is_single: bool = False) -> lis
     top = os.path.realpath(folder)
     if is_single:
         return [in_folder(os.path.basename(top), top, top, names)]
-    entries = sorted(os.scandir(folder), key=lambda entry: entry.name)
+    entries = sorted((it for it in os.scandir(folder) if it.name[0] != "."), key=lambda entry: entry.name)
     folders = [entry for entry in entries if entry.is_dir()]
     if folders:
         return [in_folder(entry.name, entry.path, top, names) for entry in folders]
