@@ -365,7 +365,7 @@ ARCHLAB = [
     (("archlab", "endless.ys", "std.hcl"), 1, ENDLESS, b""),
     (("archlab", "other.ys", "std.hcl"), 1, b"", b"other.ys: it defines no label `ncopy`\n"),
     (("archlab", "std.hcl", "ncopy.ys"), 1, b"", b"std.hcl: it defines no label `ncopy`\n"),
-    (("archlab", "twice.ys", "std.hcl"), 1, b"", b"twice.ys: with the labels `lab_..` and the data that are put behind it: LabelTwice\n"),
+    (("archlab", "twice.ys", "std.hcl"), 1, b"", b"twice.ys: with the labels `lab_..` and the data that follow it: LabelTwice\n"),
     (("archlab", "ncopy_iaddq.ys", "std.hcl"), 1, b"", b"the function, line 8: Syntax (`iaddq` needs `--full`)\n"),
     (("archlab", "ncopy.ys", "nofile.hcl"), 3, b"", b"read fault nofile.hcl\n"),
     (("archlab", "ncopy.ys", "seq.hcl"), 5, b"", b"seq.hcl: Unknown icode\n"),

@@ -118,7 +118,7 @@ class CopyLoop:
         if line < 1:
             return f"{self.source}: it defines no label `ncopy`"
         if line > len(lines):
-            return f"{self.source}: with the labels `lab_..` and the data that are put behind it: {reason}"
+            return f"{self.source}: with the labels `lab_..` and the data that follow it: {reason}"
         has_iaddq = "iaddq" in lines[line - 1].split("#")[0] and not self.flags
         return f"the function, line {line}: {reason}{' (`iaddq` needs `--full`)' if has_iaddq else ''}"
 
