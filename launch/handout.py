@@ -61,7 +61,7 @@ Then read the pages, in this order:
 
 {pages}
 
-[examples/README.md](examples/README.md) lists the programs and the processors.
+[examples/README.md](examples/README.md) says what is in `examples/`: programs, processors, copy loops.
 The pages name some files that aren't here: they are in the repository{left_out}.
 
 ## What was proved
