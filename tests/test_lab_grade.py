@@ -217,10 +217,12 @@ def test_wrong_arguments(lab, folder):
 
 
 def test_flat_hand_ins(folder):
-    """Files that begin with a name; those of others are passed over."""
-    put(folder, {name: "" for name in ("ann_pipe.hcl", "ann-ncopy.ys", "bob pipe.hcl", "notes.txt", "d.e.pipe.hcl", "pipe.hcl")})
-    found = {each.name: (sorted(each.files), each.missing) for each in hand_ins(folder, ["pipe.hcl", "ncopy.ys"])}
+    """Files that begin with a name; others are passed over, which is said."""
+    put(folder, {name: "" for name in ("ann_pipe.hcl", "ann-ncopy.ys", "bob pipe.hcl", "cy_pipe-1.hcl", "d.e.pipe.hcl", "pipe.hcl")})
+    notes = []
+    found = {each.name: (sorted(each.files), each.missing) for each in hand_ins(folder, ["pipe.hcl", "ncopy.ys"], note=notes.append)}
     missing = {"ncopy.ys": "it is missing"}
+    same(notes, [f"{name}: passed over, for its name ends in none of pipe.hcl, ncopy.ys" for name in ("cy_pipe-1.hcl", "pipe.hcl")])
     same(found, {"ann": (["ncopy.ys", "pipe.hcl"], {}), "bob": (["pipe.hcl"], missing), "d.e": (["pipe.hcl"], missing)})
 
 
@@ -246,7 +248,9 @@ def test_links_out_of_the_folder(folder):
     os.symlink("../../out", f"{folder}/in/bob/more")
     os.symlink("../out", f"{folder}/in/dee")
     os.mkfifo(f"{folder}/in/eve")
-    found = {each.name: (each.files, each.missing) for each in hand_ins(f"{folder}/in", ["pipe.hcl"])}
+    notes = []
+    found = {each.name: (each.files, each.missing) for each in hand_ins(f"{folder}/in", ["pipe.hcl"], note=notes.append)}
+    same(notes, ["eve: passed over, for the hand-ins are the folders beside it"])
     out = {"pipe.hcl": "it is a link out of the folder"}
     same(found, {"ann": ({}, out), "bob": ({}, {"pipe.hcl": "it is missing"}), "cy": ({"pipe.hcl": f"{folder}/in/cy/pipe.hcl"}, {}), "dee": ({}, out)})
 

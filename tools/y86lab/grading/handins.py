@@ -6,8 +6,9 @@ from __future__ import annotations
 
 import os
 import re
+import sys
 from dataclasses import dataclass
-from typing import Iterable
+from typing import Callable, Iterable
 
 # What parts the name from the file in a flat folder.
 PARTING = "-_. "
@@ -22,8 +23,14 @@ class HandIn:
     missing: dict[str, str]
 
 
-def hand_ins(folder: str, wanted: Iterable[str], is_single: bool = False) -> list[HandIn]:
-    """The hand-ins of a folder; of a single hand-in the folder itself."""
+def warn(text: str) -> None:
+    print(text, file=sys.stderr)
+
+
+def hand_ins(
+    folder: str, wanted: Iterable[str], is_single: bool = False, note: Callable[[str], None] = warn
+) -> list[HandIn]:
+    """The hand-ins of a folder; of a single hand-in the folder itself. `note` gets what belongs to no hand-in."""
     names = list(wanted)
     top = os.path.realpath(folder)
     if is_single:
@@ -31,8 +38,11 @@ def hand_ins(folder: str, wanted: Iterable[str], is_single: bool = False) -> lis
     entries = sorted((it for it in os.scandir(folder) if it.name[0] != "."), key=lambda entry: entry.name)
     folders = [entry for entry in entries if entry.is_dir()]
     if folders:
+        for entry in entries:
+            if entry not in folders:
+                note(f"{entry.name}: passed over, for the hand-ins are the folders beside it")
         return [in_folder(entry.name, entry.path, top, names) for entry in folders]
-    return flat([entry.path for entry in entries], top, names)
+    return flat([entry.path for entry in entries], top, names, note)
 
 
 def in_folder(name: str, folder: str, top: str, wanted: list[str]) -> HandIn:
@@ -52,7 +62,7 @@ def in_folder(name: str, folder: str, top: str, wanted: list[str]) -> HandIn:
     return HandIn(name, files, missing)
 
 
-def flat(paths: list[str], top: str, wanted: list[str]) -> list[HandIn]:
+def flat(paths: list[str], top: str, wanted: list[str], note: Callable[[str], None]) -> list[HandIn]:
     """Hand-ins of files such as `ann_pipe.hcl`; of one file alone also `ann.hcl`."""
     found: dict[str, HandIn] = {}
     for path in paths:
@@ -72,6 +82,8 @@ def flat(paths: list[str], top: str, wanted: list[str]) -> list[HandIn]:
                 hand_in.files[file] = path
                 del hand_in.missing[file]
             break
+        else:
+            note(f"{base}: passed over, for its name ends in none of {', '.join(wanted)}")
     return [found[name] for name in sorted(found)]
 
 
