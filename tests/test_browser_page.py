@@ -12,7 +12,7 @@ import zlib
 import pytest
 
 from helpers.both_ways import comes_out_wrong
-from helpers.browser_build import is_proved, page
+from helpers.browser_build import is_proved, page, page_without_solutions
 from helpers.cases import cases, same
 from helpers.designs import example
 from helpers.programs import Program
@@ -228,6 +228,35 @@ def test_by_instructions(at):
     said(at, "panel-steps", "differs first at instruction 3", "%rsp")
     at.click("#panel-steps [data-record]")
     same(at.do("[workbench.tab, document.activeElement.id]"), ["run", "result"])
+
+
+def test_steps_past_the_limit_of_the_pipeline(at):
+    """The pipeline is at its limit of cycles before the program's end: what it did until then is listed."""
+    at.write("ys", "    irmovq $1, %rbx\n    irmovq $1200, %rax\nloop:\n    subq %rbx, %rax\n    je end\n    nop\n    nop\n    nop\n    nop\n    jmp loop\nend:\n    halt\n")
+    at.click("#tab-steps")
+    said(at, "panel-steps", "What each instruction does", "irmovq $1200, %rax")
+
+
+def test_steps_without_solutions(at, folder):
+    """That page has no pipeline with iaddq. It lists what the reader's own did, as far as it is right; on SEQ it says why there is no list."""
+    count = "    irmovq $5, %rcx\n    xorq %rax, %rax\nloop:\n    addq %rcx, %rax\n    iaddq $-1, %rcx\n    jne loop\n    halt\n"
+    page_without_solutions(f"{folder}/without.html")
+    try:
+        at.begin(f"{folder}/without.html")
+        at.do("el('full').click()")
+        at.write("ys", count)
+        at.write("hcl", example("with_iaddq"))
+        said(at, "outcome", "comes out right")
+        at.click("#tab-steps")
+        said(at, "panel-steps", "The processor’s run is the same.", "iaddq $-1, %rcx")
+        same(at.do("every('#panel-steps tbody tr').length"), at.do("workbench.compared.right.steps"))
+        at.write("hcl", example("std"))
+        said(at, "panel-steps", "differs first at instruction 4")
+        same(at.do("every('#panel-steps tbody tr:not(.differs)').length"), 4)
+        at.write("hcl", example("seq"))
+        said(at, "panel-steps", "none has iaddq")
+    finally:
+        at.begin(at.path)
 
 
 def test_steps_by_keys(at):

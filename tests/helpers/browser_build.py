@@ -13,6 +13,7 @@ import pytest
 
 import workbench as launcher
 import unproved
+from handout import solutions
 from helpers.paths import TOP
 from helpers.programs import Answer
 
@@ -70,6 +71,15 @@ def page():
             about = launcher.about(TOP, made, all(it.verdict for it in made))
             written(TOP, {it.name: it.file for it in made}, about, file)
     return file
+
+
+def page_without_solutions(file):
+    """Makes the workbench of a folder that is handed out without solutions."""
+    from build import written
+
+    made = programs()
+    about = launcher.about(TOP, made, all(it.verdict for it in made))
+    written(TOP, {it.name: it.file for it in made}, about, file, frozenset(solutions(TOP)))
 
 
 def node():

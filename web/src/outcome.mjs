@@ -28,6 +28,8 @@ const ENDS = {
 /** The pipeline of the examples that is right: what retires there is what the instructions do. */
 const bookDesign = () => (example("hcl", isFull() ? "with_iaddq.hcl" : "std.hcl")
   ?? example("hcl", "std.hcl")).text;
+/** Whether that one lacks iaddq: a page without solutions has none with it. */
+const lacksIaddq = () => isFull() && !example("hcl", "with_iaddq.hcl");
 
 /** Whether a store of these records meets code of the listing. */
 function writesCode(listing, records) {
@@ -40,22 +42,35 @@ function writesCode(listing, records) {
   return stores.some((at) => [0, 1, 2, 3, 4, 5, 6, 7].some((place) => code.has(at + place)));
 }
 
+/**
+ * What each instruction does: the records of the book's pipeline, or null if its run isn't that by instructions. (At the
+ * limit of cycles it has fewer.)
+ */
+function bookSteps(listing, right, book) {
+  const reference = report(book.out), steps = trace(book.out);
+  if (!right || !reference) return null;
+  return right.whole === reference.whole || (reference.status === "AOK" && !writesCode(listing, steps)) ? steps : null;
+}
+
+/** The records that y86-tell finds right. */
+const rightRecords = (records, { first }) => (first ? records.slice(0, first.number - 1) : records);
+
 /** The two runs compared: records by instructions and by the machine, and the number of the first that differs. */
 function compared(path, listing, ran, by_, book, run, told) {
-  const right = report(by_.out), mine = report(ran.out), reference = report(book.out), steps = trace(book.out);
-  const isKnown = Boolean(right && reference) && (right.whole === reference.whole
-    || (right.status === "AOK" && !writesCode(listing, steps)));
-  const found = { path, right, mine, steps: isKnown ? steps : null, premise: told?.premise };
+  const right = report(by_.out), mine = report(ran.out), steps = bookSteps(listing, right, book);
+  const records = path === "pipe" ? trace(ran.out) : run ? seqRecords(run) : [];
+  const found = { path, right, mine, records, steps, premise: told?.premise };
+  found.lacksIaddq = !steps && lacksIaddq() && !writesCode(listing, records);
   const isSame = Boolean(right && mine) && right.whole === mine.whole;
   if (path === "pipe") {
     const { outcome, first = null } = told ?? { outcome: isSame ? "same" : "state" };
-    return { ...found, records: trace(ran.out), isSame: outcome === "same", isCut: outcome === "limit", first };
+    if (found.lacksIaddq && told) found.steps = rightRecords(records, told);
+    return { ...found, isSame: outcome === "same", isCut: outcome === "limit", first };
   }
-  const records = run ? seqRecords(run) : [];
   // (of a long run the first cycles are there)
   const isPart = right?.status === "AOK" || records.length < mine?.steps;
-  const first = isKnown && records.length ? firstDifference(records, steps, isPart) : null;
-  return { ...found, records, isSame, isCut: false, first };
+  const first = steps && records.length ? firstDifference(records, steps, isPart) : null;
+  return { ...found, isSame, isCut: false, first };
 }
 
 /** Runs the program on the processor, by instructions and on the book's pipeline, and shows what came out. */

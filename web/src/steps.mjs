@@ -27,7 +27,8 @@ function rowHTML(right, mine, number, first) {
     + (isFirst ? differsHTML(first) : "");
 }
 
-const NONE = "This program overwrites its own instructions, so they can’t be listed one by one.";
+const OVERWRITES = "This program overwrites its own instructions, so they can’t be listed one by one.";
+const NO_IADDQ = "The list is made by a pipeline that this page has, and none has iaddq: there is no list.";
 
 function show() {
   const it = state.compared, panel = by("panel-steps");
@@ -36,7 +37,7 @@ function show() {
     return;
   }
   if (!it.steps) {
-    panel.innerHTML = `<div class="blank">${NONE}</div>`;
+    panel.innerHTML = `<div class="blank">${it.lacksIaddq ? NO_IADDQ : OVERWRITES}</div>`;
     return;
   }
   const { steps, records, first } = it, count = Math.max(first?.number ?? 0, steps.length);
