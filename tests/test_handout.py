@@ -213,5 +213,13 @@ def test_without_solutions(class_folder):
     assert {"examples/designs/load_forwarding.hcl", "examples/copy/ncopy_tree.ys", "docs/TUTORIAL.md"} <= left
 
 
+def test_commands_without_solutions(class_folder):
+    """No command of a page that stays names what was left out."""
+    left = set(files_in(f"{class_folder}/folder")) - set(files_in(f"{class_folder}/without"))
+    pages = [it for it in handed_pages() if not it.startswith(handout.SOLUTIONS)]
+    commands = [command for page in pages for _, command, _ in transcripts(page)]
+    same([it for it in commands if any(name in it for name in left)], [])
+
+
 def test_the_copy_loop_of_the_book_stays(class_folder):
     same(os.path.exists(f"{class_folder}/without/examples/copy/ncopy.ys"), True)
