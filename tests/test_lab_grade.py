@@ -17,6 +17,7 @@ from helpers.designs import changed, design, example
 from helpers.paths import TOP
 from helpers.programs import put
 from y86lab.calls import Programs
+from y86lab.commands.run_both import other_words
 from y86lab.errors import LabError
 from y86lab.grading.formats import as_csv, as_gradescope, as_json, as_junit
 from y86lab.grading.grader import Grade, Report, Score, words
@@ -380,6 +381,15 @@ def test_try(lab, programs):
     same(lines[2:5], ["In cycle 7 the pipeline retires instruction 3 of the program, and does it wrong:", "", "    0x014: addq %rax, %rax"])
     same(lines[-1], "The theorem doesn't cover this run: it needs a yes from the check.")
     same(lab("try", "p.ys", "wrong.hcl", "--inputs", "1", tell=tell)[:2], (0, "p.ys comes out right on wrong.hcl.\n"))
+
+
+def test_try_with_inputs_without_an_end(lab, programs):
+    """A word counts the turns of a loop. A pipeline isn't wrong because the loop doesn't end."""
+    program = "irmovq n, %rdi\nmrmovq (%rdi), %rcx\nirmovq $1, %r8\nloop:\nsubq %r8, %rcx\njne loop\nhalt\n.align 8\nn:\n.quad 5\n"
+    ends = 1 + sum(0 < int(word) < 100 for turn in range(1, 20) for word in other_words(turn, 1))
+    assert 5 < ends < 20
+    same(lab("try", "p.ys", "std.hcl", files={"p.ys": program, "std.hcl": example("std")}, tell=programs("y86_tell")), (0,
+        f"p.ys comes out right on std.hcl with each of {ends} inputs. With {20 - ends} others it is right up to the limit of cycles, and doesn't end.\n", ""))
 
 
 def test_try_on_seq(lab):

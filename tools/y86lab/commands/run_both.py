@@ -33,18 +33,22 @@ def run(arguments: argparse.Namespace, programs: Programs) -> int:
     datapath = tell.datapath(programs, arguments.file)
     options = run_options(arguments)
     difference = pipeline_difference if datapath == "pipe" else sequential_difference
-    tried = 0
+    tried = cut = 0
     with tempfile.TemporaryDirectory() as folder:
         for words, made in objects(arguments, programs, folder):
             told = difference(programs, datapath, arguments.file, made, options)
+            if told and words and datapath == "pipe" and is_cut(programs, arguments.file, made, options):
+                cut += 1
+                continue
             tried += 1
             if told:
                 if words:
                     print(f"The .quad lines were: {' '.join(words)}\n")
                 print(told, end="")
                 return REFUSED
-    inputs = "" if tried == 1 else f" with each of {tried} inputs"
-    print(f"{arguments.program} comes out right on {arguments.file}{inputs}.")
+    inputs = "" if tried + cut == 1 else f" with each of {tried} inputs"
+    others = f" With {cut} others it is right up to the limit of cycles, and doesn't end." if cut else ""
+    print(f"{arguments.program} comes out right on {arguments.file}{inputs}.{others}")
     return DONE
 
 
@@ -64,9 +68,13 @@ def objects(arguments: argparse.Namespace, programs: Programs, folder: str) -> I
 
 
 def other_words(turn: int, count: int) -> list[str]:
-    """Small numbers of both signs, and now and then large ones; the same at each call."""
-    chance = random.Random(turn)
-    return [str(chance.choice([chance.randrange(-20, 20), chance.getrandbits(63) - (1 << 62)])) for _ in range(count)]
+    """Small numbers of both signs, and now and then a large one; the same at each call."""
+    chance = random.Random(f"input {turn}")
+    return [str(other_word(chance)) for _ in range(count)]
+
+
+def other_word(chance: random.Random) -> int:
+    return chance.getrandbits(63) - (1 << 62) if chance.random() < 0.2 else chance.randrange(-20, 21)
 
 
 def assembled(arguments: argparse.Namespace, programs: Programs, folder: str, text: str) -> str:
@@ -89,6 +97,12 @@ def pipeline_difference(programs: Programs, _: str, path: str, made: str, option
     if said.status == DONE:
         return ""
     return answered(programs, "run", path, made, *options, program="y86-tell").out
+
+
+def is_cut(programs: Programs, path: str, made: str, options: list[str]) -> bool:
+    """Whether a pipeline's run is right as far as it goes: up to the limit."""
+    words = ["run", path, made, "--unchecked", "--json", *options]
+    return tell.asked(programs, *words, limits=Limits(LONG_RUN))[1].get("outcome") == "limit"
 
 
 def sequential_difference(programs: Programs, datapath: str, path: str, made: str, options: list[str]) -> str:
