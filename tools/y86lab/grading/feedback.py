@@ -28,9 +28,9 @@ table {{ border-collapse: collapse; }}
 th, td {{ padding: .3rem .8rem; text-align: left; border-bottom: 1px solid #8884; }}
 td.points {{ text-align: right; white-space: nowrap; }}
 pre {{ overflow-x: auto; padding: .8rem; border: 1px solid #8884; border-radius: 6px; font-size: .85rem; }}
-.stages {{ display: grid; grid-template-columns: repeat(5, 1fr); gap: .5rem; margin: 1rem 0; }}
+.stages {{ display: grid; grid-template-columns: repeat(auto-fit, minmax(8rem, 1fr)); gap: .5rem; margin: 1rem 0; }}
 .stages div {{ border: 2px solid #4a7fb5; border-radius: 6px; padding: .4rem .6rem; font-size: .85rem; }}
-.stages div.bubble {{ border-color: #8886; color: #888; }}
+.stages div.bubble {{ border-color: #8886; color: color-mix(in srgb, CanvasText 70%, Canvas); }}
 .stages div.wrong {{ border-style: dashed; border-color: #c4553b; }}
 .stages b {{ display: block; }}
 </style></head><body>
