@@ -49,7 +49,8 @@ function writesCode(listing, records) {
 function bookSteps(listing, right, book) {
   const reference = report(book.out), steps = trace(book.out);
   if (!right || !reference) return null;
-  return right.whole === reference.whole || (reference.status === "AOK" && !writesCode(listing, steps)) ? steps : null;
+  const isPart = reference.status === "AOK" && !writesCode(listing, steps);
+  return isPart || right.whole === reference.whole ? steps : null;
 }
 
 /** The records that y86-tell finds right. */
