@@ -43,8 +43,8 @@ function writesCode(listing, records) {
 }
 
 /**
- * What each instruction does: the records of the book's pipeline, or null if its run isn't that by instructions. (At the
- * limit of cycles it has fewer.)
+ * What each instruction does: the records of the book's pipeline, or null if its run isn't that by instructions. (At
+ * the limit of cycles it has fewer.)
  */
 function bookSteps(listing, right, book) {
   const reference = report(book.out), steps = trace(book.out);
