@@ -7,10 +7,10 @@ use Rattle.ctl_atoms.specs.declared.leaf.Atom.{Atom}
 use Rattle.dp_signals.specs.SeqTable.{seq_rows}
 use Rattle.hcl_types.specs.Tables.{row_names}
 use Rattle.hcl_types.specs.declared.term.Term.{Term}
-use Rattle.seq_plus.specs.Accepted.{RefinesPlus}
-use Rattle.seq_plus.specs.Fields.{Fields, fields_of}
 use Rattle.seq_plus.specs.PlusTable.{plus_rows}
-use Rattle.seq_plus.specs.Verdicts.{AcceptsPlus, plus_questions}
+use Rattle.seq_plus_check.specs.Accepted.{RefinesPlus}
+use Rattle.seq_plus_check.specs.Fields.{Fields, fields_of}
+use Rattle.seq_plus_check.specs.Verdicts.{AcceptsPlus, plus_questions}
 use Rattle.seq_refinement.specs.Accepted.{RefinesSeq}
 use Rattle.verdict_text.specs.SeqLine.{plus_no, seq_no}
 use Rattle.ctl_verdicts.specs.ObligationSet.{IsLeastFalseOf, ObligationSet}

@@ -14,7 +14,7 @@ use control_check::{CheckFault, Verdict, check_seq};
 use ctl_atoms::Atom;
 use hcl_types::Row;
 use nets::Valuation;
-use seq_plus::{Plain16, check_plus};
+use seq_plus_check::{Plain16, check_plus};
 use std::alloc::Global;
 use verdict_text::{plus_refusal, seq_refusal};
 use y86_base::{Items, Memory, Variant};
@@ -100,7 +100,7 @@ pub fn decided(
 }
 
 /// The text of a `no`, by the rows of the datapath's table and the design's atoms.
-#[tactic(auto, unfolding(seq_plus::specs::Fields::fields_of, seq_obligations::specs::Fields::line_at))]
+#[tactic(auto, unfolding(seq_plus_check::specs::Fields::fields_of, seq_obligations::specs::Fields::line_at))]
 fn refusal(
     alloc: Global,
     which: Datapath,

@@ -1,5 +1,5 @@
 //! Verdicts on HCL files: whether a design meets every obligation of a datapath at every control valuation. The
-//! verdicts for SEQ and PIPE are here; `check_plus` of `seq_plus` is the one for SEQ+.
+//! verdicts for SEQ and PIPE are here; `check_plus` of `seq_plus_check` is the one for SEQ+.
 #![tactic(auto)]
 
 mod accepted;

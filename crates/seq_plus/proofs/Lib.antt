@@ -1,5 +1,2 @@
-pub mod PlusRows
 pub mod PlusCycles
-pub mod Runs
 pub mod OneRun
-pub mod PlusVerdict

@@ -5,12 +5,5 @@ pub mod PlusCycle
 pub mod PlusRun
 pub mod Told
 pub mod Plus
-pub mod Fields
-pub mod Obligations
-pub mod Accepted
-pub mod Cycle
-pub mod Rules
 pub mod Sound
 pub mod PlusLaws
-pub mod Designed
-pub mod Verdicts

@@ -4,7 +4,6 @@ ghost use Rattle.y86_base.specs.declared.parts.Variant.{Variant};
 ghost use Rattle.y86_isa.specs.declared.machine.Rec.{Rec};
 ghost use Rattle.hcl_types.specs.Tables.{IsBound, IsOrderOf, IsSound};
 ghost use Rattle.hcl_types.specs.declared.term.Term.{Term};
-ghost use Rattle.seq_plus.specs.Accepted.{AcceptedPlus, RefinesPlus};
 ghost use Rattle.seq_plus.specs.Plus.{CallsAreTheRun};
 ghost use Rattle.seq_plus.specs.PlusEquations.{PlusSolves};
 ghost use Rattle.seq_plus.specs.PlusRun.{IsPlusCycle, PlusRun};
@@ -48,11 +47,4 @@ pub fn law_of_plus_cycles()
 #[tactic(auto, using(crate::proofs::OneRun::calls_are_the_run))]
 pub fn law_of_calls()
     ensures { CallsAreTheRun }
-{}
-
-/// A design for SEQ+ that meets its obligations at every control valuation runs as the instructions do: on every image,
-/// for every number of cycles.
-#[tactic(auto, using(crate::proofs::Runs::refines))]
-pub fn law_of_refinement()
-    ensures { (v : Variant) (terms : List Term) (ids : List ℕ) → IsBound plus_rows terms → IsOrderOf plus_rows terms ids → AcceptedPlus v terms → RefinesPlus v terms }
 {}

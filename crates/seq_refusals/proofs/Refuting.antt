@@ -18,10 +18,10 @@ use Rattle.bdd_decide.specs.Decisions.{IsAlwaysTrue, IsLeastOf}
 use Rattle.ctl_rules.specs.declared.rules.Rule.{Rule}
 use Rattle.seq_obligations.specs.Fields.{fields_of as seq_fields_of}
 use Rattle.seq_obligations.specs.Obligations.{rule_count}
-use Rattle.seq_plus.proofs.PlusVerdict as plus_verdict
-use Rattle.seq_plus.proofs.Runs.{refines as plus_refines}
+use Rattle.seq_plus_check.proofs.PlusVerdict as plus_verdict
+use Rattle.seq_plus_check.proofs.Runs.{refines as plus_refines}
 use Rattle.seq_refinement.proofs.Refining.{refines as seq_refines}
-use Rattle.seq_plus.specs.Fields.{fields_of as plus_fields_of}
+use Rattle.seq_plus_check.specs.Fields.{fields_of as plus_fields_of}
 use Rattle.ctl_verdicts.specs.Decisions.{HaveGatesOfNet, IsRuleDecision}
 use Rattle.ctl_verdicts.specs.ObligationSet.{AreRulesOfSet, IsFalseAtBits, MeetsObligationSet, IsRuleOfSet, ObligationSet}
 use Rattle.ctl_verdicts.specs.declared.decision.FailedRule.{FailedRule}

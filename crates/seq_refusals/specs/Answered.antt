@@ -14,8 +14,8 @@ use Rattle.net_fields.specs.FieldSpecs.{InRange, number_among, total}
 use Rattle.bdd_decide.specs.Decisions.{IsLeastOf}
 use Rattle.seq_obligations.specs.Obligations.{rule_count}
 use Rattle.seq_refinement.specs.Accepted.{RefinesSeq}
-use Rattle.seq_plus.specs.Accepted.{RefinesPlus}
-use Rattle.seq_plus.specs.Verdicts.{AcceptsPlus, RejectsPlus}
+use Rattle.seq_plus_check.specs.Accepted.{RefinesPlus}
+use Rattle.seq_plus_check.specs.Verdicts.{AcceptsPlus, RejectsPlus}
 use Rattle.control_check.specs.SeqVerdicts.{AcceptsSeq, RejectsSeq}
 use Rattle.ctl_verdicts.specs.ObligationSet.{IsFalseAtBits}
 use Rattle.seq_requirements.specs.Datapaths.{questions_of, rows_of, spots_of}

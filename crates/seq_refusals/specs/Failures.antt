@@ -6,7 +6,7 @@ use Rattle.hcl_types.specs.declared.term.Term.{Term}
 use Rattle.bdd_decide.specs.Decisions.{IsLeastOf}
 use Rattle.ctl_rules.specs.declared.rules.Rule.{Rule}
 use Rattle.seq_obligations.specs.Rules.{AreSeqRules}
-use Rattle.seq_plus.specs.Rules.{ArePlusRules}
+use Rattle.seq_plus_check.specs.Rules.{ArePlusRules}
 use Rattle.seq_requirements.specs.declared.datapath.Datapath.{Datapath}
 use Rattle.seq_requirements.specs.declared.datapath.Datapath.TheVariants.{Seq, Plus}
 use Rattle.ctl_verdicts.specs.declared.decision.FailedRule.{FailedRule}

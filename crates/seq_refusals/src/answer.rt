@@ -15,7 +15,7 @@ use hcl_types::{Design, Order};
 use nets::Net;
 use seq_diagnosis::{Refusal, Refutation, SeqFile, diagnose};
 use seq_obligations::seq_rules;
-use seq_plus::plus_rules;
+use seq_plus_check::plus_rules;
 use seq_requirements::Datapath;
 use std::alloc::Global;
 use y86_base::{Items, Memory, Variant};

@@ -20,9 +20,9 @@ use Rattle.findings.proofs.EachMet.{one, two, if_both, guarded, excused, some_is
 use Rattle.seq_obligations.specs.Fields as seq
 use Rattle.seq_obligations.specs.Obligations.{demand_at as seq_demand_at, faulted, shared_demand, shared_demands}
 use Rattle.dp_signals.specs.declared.sequential_rows.SignalRows.{SignalRows}
-use Rattle.seq_plus.specs.Fields as plus
-use Rattle.seq_plus.specs.Obligations.{demand_at as plus_demand_at}
 use Rattle.seq_plus.specs.PlusNames as plus_row
+use Rattle.seq_plus_check.specs.Fields as plus
+use Rattle.seq_plus_check.specs.Obligations.{demand_at as plus_demand_at}
 use Rattle.seq_requirements.specs.Datapaths.{line_of, signals_of}
 use Rattle.seq_requirements.specs.Requirements.{IsByRequirements, row_of, shared_required, shared_requirements}
 use Rattle.seq_requirements.specs.declared.datapath.Datapath.{Datapath}

@@ -11,10 +11,10 @@ use Rattle.dp_signals.specs.SeqTable.{seq_rows}
 use Rattle.seq_obligations.specs.Fields as seq
 use Rattle.seq_obligations.specs.Obligations as seq_rule
 use Rattle.dp_signals.specs.declared.sequential_rows.SignalRows.{SignalRows}
-use Rattle.seq_plus.specs.Fields as plus
-use Rattle.seq_plus.specs.Obligations as plus_rule
 use Rattle.seq_plus.specs.PlusNames as plus_row
 use Rattle.seq_plus.specs.PlusTable.{plus_rows}
+use Rattle.seq_plus_check.specs.Fields as plus
+use Rattle.seq_plus_check.specs.Obligations as plus_rule
 use Rattle.ctl_verdicts.specs.ObligationSet.{ObligationSet}
 use Rattle.seq_requirements.specs.declared.datapath.Datapath.{Datapath}
 use Rattle.seq_requirements.specs.declared.datapath.Datapath.TheVariants.{Seq, Plus}

@@ -20,8 +20,8 @@ use Rattle.findings.specs.declared.requirement.Wanted.TheVariants as wanted
 use Rattle.seq_obligations.specs.Fields.{Fields}
 use Rattle.seq_obligations.specs.Obligations as seq_rule
 use Rattle.dp_signals.specs.declared.sequential_rows.SignalRows.{SignalRows}
-use Rattle.seq_plus.specs.Fields as plus
 use Rattle.seq_plus.specs.PlusNames as plus_row
+use Rattle.seq_plus_check.specs.Fields as plus
 use Rattle.seq_requirements.specs.Datapaths.{demand_of, line_of, signals_of}
 use Rattle.seq_requirements.specs.declared.datapath.Datapath.{Datapath}
 use Rattle.seq_requirements.specs.declared.datapath.Datapath.TheVariants.{Seq, Plus}

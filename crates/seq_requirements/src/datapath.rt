@@ -51,7 +51,7 @@ pub fn spots_of(which: Datapath) -> &'static [FieldSpec]
 {
     match which {
         Datapath::Seq => seq_obligations::spots(),
-        Datapath::Plus => seq_plus::spots(),
+        Datapath::Plus => seq_plus_check::spots(),
     }
 }
 

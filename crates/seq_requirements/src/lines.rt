@@ -2,7 +2,7 @@
 ghost use Rattle.std.specs.Prelude.{◌≡◌, ◌≤◌};
 ghost use Rattle.net_fields.specs.FieldSpecs.{decoded};
 ghost use Rattle.seq_obligations.specs.Fields.{line_at as spec_line_at, line_from};
-ghost use Rattle.seq_plus.specs.Fields as plus;
+ghost use Rattle.seq_plus_check.specs.Fields as plus;
 ghost use Rattle.seq_requirements.specs.Datapaths as spec;
 ghost use Rattle.seq_requirements.specs.Lines.{fields_in};
 

@@ -6,9 +6,9 @@ use Rattle.net_fields.proofs.Patterns.{decoded_range}
 use Rattle.hcl_types.specs.declared.term.Term.{Term}
 use Rattle.ctl_verdicts.specs.ObligationSet.{IsFalseAtBits}
 use Rattle.y86_base.specs.declared.parts.Variant.{Variant}
-use Rattle.seq_plus.specs.Accepted.{AcceptedPlus}
-use Rattle.seq_plus.specs.Fields.{fields_of, spots}
-use Rattle.seq_plus.specs.Verdicts.{plus_questions}
+use Rattle.seq_plus_check.specs.Accepted.{AcceptedPlus}
+use Rattle.seq_plus_check.specs.Fields.{fields_of, spots}
+use Rattle.seq_plus_check.specs.Verdicts.{plus_questions}
 
 pub plus_not_both : (v : Variant) (terms : List Term) (atoms : List Atom) (i : ℕ) (w : List Bool) → 1 ≤ i → i ≤ (plus_questions v).count → IsFalseAtBits (plus_questions v) terms atoms i w → AcceptedPlus v terms → ⊥
 unfolding fields_of

@@ -11,10 +11,10 @@ use Rattle.ctl_rules.specs.declared.rules.Rule.{Rule}
 use Rattle.seq_obligations.specs.Fields.{p_cnd, p_icode, plus_line}
 use Rattle.seq_obligations.specs.Rules.{AreDesignedRules}
 use Rattle.seq_obligations.specs.Signals.{IsReady, line_places, place}
-use Rattle.seq_plus.specs.Fields.{fields_of, number_of, spots}
-use Rattle.seq_plus.specs.Obligations.{obligation, signals}
 use Rattle.seq_plus.specs.PlusNames as signal
 use Rattle.seq_plus.specs.PlusTable.{plus_rows}
+use Rattle.seq_plus_check.specs.Fields.{fields_of, number_of, spots}
+use Rattle.seq_plus_check.specs.Obligations.{obligation, signals}
 
 -- the facts on which the gates of the rules depend: the fields are among the variables, and the signals that the rules
 -- use have control values

@@ -5,10 +5,10 @@ use Rattle.y86_base.specs.declared.parts.Variant.{Variant}
 use Rattle.y86_isa.specs.Blocks.{next_address}
 use Rattle.y86_isa.specs.Table.{row}
 use Rattle.seq_refinement.specs.Cycle as seq
-use Rattle.seq_plus.specs.Fields.{Fields}
 use Rattle.seq_plus.specs.PlusEquations.{at_pc}
 use Rattle.seq_plus.specs.PlusNames as name
 use Rattle.seq_plus.specs.declared.state.PlusState.{PlusState}
+use Rattle.seq_plus_check.specs.Fields.{Fields}
 
 -- the next PC of the cycle's instruction
 abbrev pub pc_behind : Variant → (ℕ → ℕ) → ℕ

@@ -1,9 +1,9 @@
 //! The verdict on a design for SEQ+.
 ghost use Rattle.std.specs.Prelude.{◌≡◌, IfErr, IfOk, true};
 ghost use Rattle.hcl_types.specs.Tables.{IsBound, IsOrderOf};
-ghost use Rattle.seq_plus.specs.Accepted.{RefinesPlus};
 ghost use Rattle.seq_plus.specs.PlusTable.{plus_rows};
-ghost use Rattle.seq_plus.specs.Verdicts.{IsPlusVerdict, is_yes};
+ghost use Rattle.seq_plus_check.specs.Accepted.{RefinesPlus};
+ghost use Rattle.seq_plus_check.specs.Verdicts.{IsPlusVerdict, is_yes};
 ghost use Rattle.ctl_verdicts.specs.ObligationSet.{IsFault};
 
 use crate::rules::plus_rules;

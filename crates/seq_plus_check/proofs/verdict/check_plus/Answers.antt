@@ -1,10 +1,10 @@
 use Rattle.std.proofs.Common.{List, Some, None, subst}
 use Rattle.seq_plus.specs.PlusTable.{plus_rows}
 use Rattle.ctl_rules.specs.declared.rules.Rule.{Rule}
-use Rattle.seq_plus.proofs.Runs.{refines}
+use Rattle.seq_plus_check.proofs.Runs.{refines}
 use Rattle.ctl_verdicts.specs.Decisions.{IsRuleDecision}
-use Rattle.seq_plus.proofs.PlusVerdict.{accepts, rejects}
-use Rattle.seq_plus.proofs.verdict.check_plus.Goals as goal
+use Rattle.seq_plus_check.proofs.PlusVerdict.{accepts, rejects}
+use Rattle.seq_plus_check.proofs.verdict.check_plus.Goals as goal
 
 pub returns-in-Err-clause-fault : goal.returns-in-Err-clause-fault
 returns-in-Err-clause-fault c = c.check_fault.ensures plus_rows c.args.design.now.terms c.in-Err.ensures.fault

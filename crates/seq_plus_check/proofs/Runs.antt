@@ -51,22 +51,22 @@ use Rattle.seq_refinement.proofs.Reflected.{follows, going, next_is}
 use Rattle.seq_refinement.proofs.Runs.{image_kept, runs_from}
 use Rattle.seq_refinement.proofs.Signals.{IsWork, next_pc_is, signals_are_work}
 use Rattle.seq_refinement.proofs.Steps as steps
-use Rattle.seq_plus.specs.Accepted.{AcceptedPlus, RefinesPlus}
-use Rattle.seq_plus.specs.Cycle.{fields_at, pc_behind}
-use Rattle.seq_plus.specs.Fields.{allowed, numbers, number_of, spots}
-use Rattle.seq_plus.specs.Obligations.{demand_at}
 use Rattle.seq_plus.specs.PlusCycle.{plus_next, plus_record}
 use Rattle.seq_plus.specs.PlusEquations.{PlusSolves, at_pc, plus_given}
 use Rattle.seq_plus.specs.PlusNames as name
 use Rattle.seq_plus.specs.PlusNames.{plus}
 use Rattle.seq_plus.specs.PlusRun.{plus_path, plus_start, IsPlusCycle, PlusRunFrom}
 use Rattle.seq_plus.specs.PlusTable.{plus_defined, plus_hardware, plus_rows, plus_state}
-use Rattle.seq_plus.specs.Rules.{places}
 use Rattle.seq_plus.specs.declared.state.PlusState.{PlusState}
-use Rattle.seq_plus.specs.Designed.{places_stand}
 use Rattle.seq_plus.proofs.PlusCycles.{updated}
-use Rattle.seq_plus.proofs.PlusRows.{hardware_rows}
 use Rattle.seq_plus.specs.PlusLaws.{plus_lawful}
+use Rattle.seq_plus_check.specs.Accepted.{AcceptedPlus, RefinesPlus}
+use Rattle.seq_plus_check.specs.Cycle.{fields_at, pc_behind}
+use Rattle.seq_plus_check.specs.Fields.{allowed, numbers, number_of, spots}
+use Rattle.seq_plus_check.specs.Obligations.{demand_at}
+use Rattle.seq_plus_check.specs.Rules.{places}
+use Rattle.seq_plus_check.specs.Designed.{places_stand}
+use Rattle.seq_plus_check.proofs.PlusRows.{hardware_rows}
 
 -- ---- the next PC of the previous instruction
 

@@ -1,12 +1,12 @@
 //! The fields of a valuation of SEQ+, and the rows and places of its signals.
 ghost use Rattle.std.specs.Prelude.{◌≡◌};
-ghost use Rattle.seq_plus.specs.Fields as spec;
-ghost use Rattle.seq_plus.specs.Rules.{places};
+ghost use Rattle.seq_plus_check.specs.Fields as spec;
+ghost use Rattle.seq_plus_check.specs.Rules.{places};
 
-use crate::row::{self, PLUS};
 use ctl_formula::Place;
 use net_fields::FieldSpec;
 use seq_obligations::{P_CND, P_ICODE, PLUS_LINE, line_places, line_spots};
+use seq_plus::row::{self, PLUS};
 
 static SPOTS: [FieldSpec; 9] =
     line_spots!([P_ICODE => row::P_ICODE, P_CND => row::P_CND], PLUS_LINE, PLUS);

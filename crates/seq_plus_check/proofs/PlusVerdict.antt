@@ -10,14 +10,14 @@ use Rattle.seq_plus.specs.PlusTable.{plus_rows}
 use Rattle.ctl_atoms.specs.declared.leaf.Atom.{Atom}
 use Rattle.net_fields.proofs.Patterns.{decoded_range}
 use Rattle.ctl_rules.specs.declared.rules.Rule.{Rule}
-use Rattle.seq_plus.specs.Fields.{fields_of, numbers, spots}
-use Rattle.seq_plus.specs.Rules.{ArePlusRules}
-use Rattle.seq_plus.specs.Accepted.{AcceptedPlus}
+use Rattle.seq_plus_check.specs.Fields.{fields_of, numbers, spots}
+use Rattle.seq_plus_check.specs.Rules.{ArePlusRules}
+use Rattle.seq_plus_check.specs.Accepted.{AcceptedPlus}
 use Rattle.ctl_verdicts.specs.Decisions.{IsRuleDecision}
 use Rattle.ctl_verdicts.specs.ObligationSet.{AreRulesOfSet, IsFalseAtBits, MeetsObligationSet}
 use Rattle.ctl_verdicts.specs.declared.decision.FailedRule.{FailedRule}
 use Rattle.ctl_verdicts.proofs.Answered.{verdict_by}
-use Rattle.seq_plus.specs.Verdicts.{AcceptsPlus, RejectsPlus, plus_questions}
+use Rattle.seq_plus_check.specs.Verdicts.{AcceptsPlus, RejectsPlus, plus_questions}
 
 as_rules : (v : Variant) (terms : List Term) (net : Gates) (list : List Rule) → ArePlusRules v terms net list → AreRulesOfSet (plus_questions v) terms net list
 unfolding fields_of

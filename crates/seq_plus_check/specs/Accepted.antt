@@ -10,11 +10,11 @@ use Rattle.ctl_atoms.specs.declared.leaf.Leaf.{Leaf}
 use Rattle.ctl_formula.specs.Controls.{AreControls}
 use Rattle.seq_obligations.specs.Obligations.{rule_count}
 use Rattle.net_fields.specs.FieldSpecs.{InRange}
-use Rattle.seq_plus.specs.Fields.{Fields, number_of, numbers, spots}
-use Rattle.seq_plus.specs.Obligations.{obligation}
 use Rattle.seq_plus.specs.PlusRun.{PlusRun, PlusEndIs}
 use Rattle.seq_plus.specs.PlusTable.{plus_rows}
 use Rattle.seq_plus.specs.declared.state.PlusState.{PlusState}
+use Rattle.seq_plus_check.specs.Fields.{Fields, number_of, numbers, spots}
+use Rattle.seq_plus_check.specs.Obligations.{obligation}
 
 -- each of the 16 obligations holds at every control valuation of the design: at all lines of fields, under every truth
 -- of the atoms, with the control values that the design's terms then have

@@ -6,12 +6,12 @@ use Rattle.ctl_atoms.specs.Atoms.{AreAtoms}
 use Rattle.ctl_atoms.specs.declared.leaf.Atom.{Atom}
 use Rattle.seq_obligations.specs.Obligations.{rule_count}
 use Rattle.ctl_verdicts.specs.ObligationSet.{IsLeastFalseOf, ObligationSet}
-use Rattle.seq_plus.specs.Accepted.{AcceptedPlus}
-use Rattle.seq_plus.specs.Fields.{fields_by, spots}
-use Rattle.seq_plus.specs.Obligations.{obligation}
 use Rattle.seq_plus.specs.PlusTable.{plus_rows}
-use Rattle.seq_plus.specs.declared.verdict.Plain16.{Plain16}
-use Rattle.seq_plus.specs.declared.verdict.Plain16.TheVariants.{Yes, No}
+use Rattle.seq_plus_check.specs.Accepted.{AcceptedPlus}
+use Rattle.seq_plus_check.specs.Fields.{fields_by, spots}
+use Rattle.seq_plus_check.specs.Obligations.{obligation}
+use Rattle.seq_plus_check.specs.declared.verdict.Plain16.{Plain16}
+use Rattle.seq_plus_check.specs.declared.verdict.Plain16.TheVariants.{Yes, No}
 
 -- the obligations of SEQ+ on a design
 abbrev pub plus_questions : Variant → ObligationSet

@@ -9,17 +9,15 @@ ghost use Rattle.net_fields.specs.Spelling.{spelt};
 ghost use Rattle.hcl_types.specs.Tables.{IsBound, IsOrderOf};
 ghost use Rattle.ctl_rules.specs.ColumnDemands.{next_leaf, picks_some_leaf};
 ghost use Rattle.seq_obligations.specs.Fields.{p_cnd, p_icode, plus_bit_count};
-ghost use Rattle.seq_plus.specs.Designed.{places_stand, ready_by, spelt_at_places};
-ghost use Rattle.seq_plus.specs.Fields.{allowed, fields_of, goes_on, number_of};
-ghost use Rattle.seq_plus.specs.Obligations.{demand_at};
 ghost use Rattle.seq_plus.specs.PlusNames as signal;
 ghost use Rattle.seq_plus.specs.PlusTable.{plus_rows};
-ghost use Rattle.seq_plus.specs.Rules.{ArePlusRules, IsPlusReady, places};
 ghost use Rattle.seq_plus.specs.Sound.{plus_sound};
+ghost use Rattle.seq_plus_check.specs.Designed.{places_stand, ready_by, spelt_at_places};
+ghost use Rattle.seq_plus_check.specs.Fields.{allowed, fields_of, goes_on, number_of};
+ghost use Rattle.seq_plus_check.specs.Obligations.{demand_at};
+ghost use Rattle.seq_plus_check.specs.Rules.{ArePlusRules, IsPlusReady, places};
 
 use crate::fields::places;
-use crate::row::{P_VAL_C, P_VAL_M, P_VAL_P, PLUS};
-use crate::table::plus_table;
 use ctl_atoms::CtlFault;
 use ctl_formula::{Controls, Place};
 use ctl_rules::{NextPcInputs, RowGates, Rules, by_icode, next_is};
@@ -30,6 +28,8 @@ use seq_obligations::{
     P_CND, P_ICODE, PLUS_BIT_COUNT, PLUS_LINE, RuleFamily, designed_rules, line_allowed,
     shared_demand_gate,
 };
+use seq_plus::plus_table;
+use seq_plus::row::{P_VAL_C, P_VAL_M, P_VAL_P, PLUS};
 use std::alloc::Global;
 use y86_base::{Memory, Variant};
 use y86_isa::{Row, icode_count};

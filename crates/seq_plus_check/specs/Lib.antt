@@ -1,0 +1,7 @@
+pub mod Fields
+pub mod Obligations
+pub mod Accepted
+pub mod Cycle
+pub mod Rules
+pub mod Designed
+pub mod Verdicts
