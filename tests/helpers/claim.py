@@ -14,7 +14,7 @@ if __name__ == "__main__":
 
 from helpers.paths import TOP
 
-LAW = "crates/y86_cli/src/laws.rt"
+LAW = "crates/y86_call_laws/src/laws.rt"
 CLAUSE = "check_pipe"
 # What a `yes` says beyond the claim, and so need not be read: how the checker decided, what the call printed, and the record of the call, which is a
 # premise of the law and a promise of `run`.

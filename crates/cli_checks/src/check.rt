@@ -8,8 +8,8 @@ ghost use Rattle.cli_plans.specs.Designs.{IsOrdered};
 ghost use Rattle.cli_plans.specs.PlanFollowing.{FollowsPlanOver, WritesAnswerOn};
 
 use crate::sequential::{decided, seq_text};
-use crate::verdict::{PipeVerdictText, control_stop, pipe_verdict};
 use cli_plans::{Datapath, OrderedDesign, StopReason, pipe_file, seq_file, write_answer};
+use cli_verdicts::{PipeVerdictText, control_stop, pipe_verdict};
 use control_check::CheckFault;
 use std::alloc::Global;
 use wb_io::{Files, Sink};

@@ -24,7 +24,7 @@ use Rattle.ctl_rules.specs.declared.rules.Rule.{Rule}
 use Rattle.ctl_rules.specs.declared.rules.Rules.{Rules}
 use Rattle.y86_base.specs.declared.parts.Variant.{Variant}
 use Rattle.cli_obligations.specs.AigerTexts.{AigAnswers, AigrunAnswers, RefusesAag, IsAigOfDesign, aag_reason}
-use Rattle.cli_checks.specs.Checks.{RefusesControl}
+use Rattle.cli_verdicts.specs.Verdicts.{RefusesControl}
 use Rattle.cli_plans.specs.PlanFollowing.{RefusesWith, WritesAnswer, SinkState}
 use Rattle.cli_plans.specs.Plan.{done}
 use Rattle.cli_plans.specs.Stops.{answer_at}

@@ -11,11 +11,11 @@ use Rattle.hcl_types.specs.declared.term.Term.{Term}
 use Rattle.pipe_motion.specs.declared.settings.Settings.{Settings}
 use Rattle.y86_base.specs.declared.parts.Variant.{Variant}
 use Rattle.cli_obligations.specs.Certified.{CertifiesPipe, PipeCertifies, Rechecks, IsCertStop}
-use Rattle.cli_checks.specs.Checks.{AnswersNoPipe, RefusesControl, RefusesPipe}
+use Rattle.cli_verdicts.specs.Verdicts.{AnswersNoPipe, RefusesControl, RefusesPipe}
 use Rattle.cli_plans.specs.PlanFollowing.{RefusesWith, WritesAnswer, SinkState}
 use Rattle.cli_plans.specs.Plan.{done, refused}
 use Rattle.cli_plans.specs.declared.stop_reason.StopReason as code
-use Rattle.cli_checks.proofs.Checks.{said_denied}
+use Rattle.cli_verdicts.proofs.Verdicts.{said_denied}
 use Rattle.cli_plans.proofs.Does.{refusal_says, refused_says, says_more}
 
 pub has_atoms : (terms : List Term) (atoms : List Atom) → AreAtoms pipe_rows terms atoms → HasControlValues terms

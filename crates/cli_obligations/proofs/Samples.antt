@@ -17,7 +17,7 @@ use Rattle.prog_gen.specs.Choices.{valuation}
 use Rattle.ctl_rules.specs.declared.rules.Rule.{Rule}
 use Rattle.ctl_rules.specs.declared.rules.Rules.{Rules}
 use Rattle.y86_base.specs.declared.parts.Variant.{Variant}
-use Rattle.cli_checks.specs.Checks.{RefusesControl}
+use Rattle.cli_verdicts.specs.Verdicts.{RefusesControl}
 use Rattle.cli_plans.specs.PlanFollowing.{RefusesWith, WritesAnswer, SinkState}
 use Rattle.cli_plans.specs.Plan.{done}
 use Rattle.cli_obligations.specs.Samples.{DrawnOf, IsFalseDrawn, IsSampled, NoneFalseDrawn, SampleAnswers, found_line, none_line}

@@ -16,7 +16,7 @@ use Rattle.pipe_fields.specs.Layout.{bit_count}
 use Rattle.pipe_motion.specs.declared.settings.Settings.{Settings}
 use Rattle.pipe_obligations.specs.FileSettings.{IsFalseAt, PipeControls}
 use Rattle.y86_base.specs.declared.parts.Variant.{Variant}
-use Rattle.cli_checks.specs.Checks.{RefusesControl}
+use Rattle.cli_verdicts.specs.Verdicts.{RefusesControl}
 use Rattle.cli_plans.specs.Lines.{fault_line}
 use Rattle.cli_plans.specs.Plan.{Answer, done, refused}
 

@@ -6,7 +6,7 @@ use Rattle.y86_base.specs.declared.parts.Variant.{Variant}
 use Rattle.hcl_types.specs.declared.term.Term.{Term}
 use Rattle.cli_obligations.specs.AigerTexts.{AigAnswers, AigrunAnswers}
 use Rattle.cli_obligations.specs.Certified.{PipeCertifies, Rechecks, cert_limit}
-use Rattle.cli_checks.specs.Checks.{RefusesControl}
+use Rattle.cli_verdicts.specs.Verdicts.{RefusesControl}
 use Rattle.cli_plans.specs.Designs.{IsDesign, RefusesDesign}
 use Rattle.cli_obligations.specs.Samples.{SampleAnswers}
 use Rattle.cli_plans.specs.Plan.{Plan, value_in, reads, answer_in}

@@ -13,15 +13,15 @@ use Rattle.hcl_types.specs.declared.term.Term.{Term}
 use Rattle.pipe_motion.specs.declared.settings.Settings.{Settings}
 use Rattle.wb_io.specs.Files.{HasBytes}
 use Rattle.y86_base.specs.declared.parts.Variant.{Variant}
-use Rattle.cli_checks.specs.Checks.{AnswersNoPipe, RefusesPipe}
+use Rattle.cli_verdicts.specs.Verdicts.{AnswersNoPipe, RefusesPipe}
 use Rattle.cli_plans.specs.Designs.{IsDesign}
 use Rattle.cli_plans.specs.Lines.{fault_line}
 use Rattle.cli_plans.specs.Plan.{Answer, done, refused}
 use Rattle.cli_plans.specs.Stops.{answer_at, status_of}
 use Rattle.cli_plans.specs.declared.stop_reason.StopReason as code
 use Rattle.cli_plans.specs.declared.stop_reason.StopReason.TheVariants.{Memory}
-use Rattle.cli_checks.specs.declared.verdict.PipeVerdictText.{PipeVerdictText}
-use Rattle.cli_checks.specs.declared.verdict.PipeVerdictText.TheVariants as pipe_text
+use Rattle.cli_verdicts.specs.declared.verdict.PipeVerdictText.{PipeVerdictText}
+use Rattle.cli_verdicts.specs.declared.verdict.PipeVerdictText.TheVariants as pipe_text
 
 -- the most bytes of a certificate
 abbrev pub cert_limit : ℕ

@@ -11,7 +11,7 @@ use Rattle.pipe_obligations.specs.FileSettings.{IsFalseAt, PipeControls}
 use Rattle.prog_gen.specs.Choices.{valuation}
 use Rattle.y86_base.specs.Numeral.{numeral}
 use Rattle.y86_base.specs.declared.parts.Variant.{Variant}
-use Rattle.cli_checks.specs.Checks.{RefusesControl}
+use Rattle.cli_verdicts.specs.Verdicts.{RefusesControl}
 use Rattle.cli_plans.specs.Plan.{Answer, done}
 
 -- the obligations at valuation i of a seed, drawn for an instruction set and the atoms of a design, at the design's settings

@@ -3,13 +3,13 @@ ghost use Rattle.std.specs.Prelude.{◌≡◌, IfErr, IfOk, List, ℕ};
 ghost use Rattle.dp_signals.specs.PipeTable.{pipe_rows};
 ghost use Rattle.cli_obligations.specs.AigerTexts.{AigAnswers, IsAigOfDesign};
 ghost use Rattle.cli_obligations.specs.Answers.{aig_plan};
-ghost use Rattle.cli_checks.specs.Checks.{RefusesControl};
+ghost use Rattle.cli_verdicts.specs.Verdicts.{RefusesControl};
 ghost use Rattle.cli_plans.specs.Designs.{IsOrdered};
 ghost use Rattle.cli_plans.specs.PlanFollowing.{FollowsPlanOver, RefusesWith, WritesAnswerOn};
 
 use aiger_out::write;
-use cli_checks::control_stop;
 use cli_plans::{OrderedDesign, StopReason, pipe_file, write_answer};
+use cli_verdicts::control_stop;
 use control_check::file_rules;
 use ctl_verdicts::CheckFault;
 use std::alloc::Global;

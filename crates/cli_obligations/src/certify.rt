@@ -3,13 +3,13 @@ ghost use Rattle.std.specs.Prelude.{◌≡◌, IfErr, IfOk, List, ℕ};
 ghost use Rattle.dp_signals.specs.PipeTable.{pipe_rows};
 ghost use Rattle.cli_obligations.specs.Answers.{certify_pipe_plan};
 ghost use Rattle.cli_obligations.specs.Certified.{IsCertificateOrNo, PipeCertifies};
-ghost use Rattle.cli_checks.specs.Checks.{RefusesControl};
+ghost use Rattle.cli_verdicts.specs.Verdicts.{RefusesControl};
 ghost use Rattle.cli_plans.specs.Designs.{IsOrdered};
 ghost use Rattle.cli_plans.specs.PlanFollowing.{FollowsPlanOver, RefusesWith, WritesAnswerOn};
 
 use cert_log::certify;
-use cli_checks::{PipeDecision, PipeVerdictText, pipe_decision};
 use cli_plans::{OrderedDesign, StopReason, pipe_file, write_answer};
+use cli_verdicts::{PipeDecision, PipeVerdictText, pipe_decision};
 use std::alloc::Global;
 use wb_io::{Files, Sink};
 use y86_base::Variant;

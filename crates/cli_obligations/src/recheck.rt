@@ -5,13 +5,13 @@ ghost use Rattle.dp_signals.specs.PipeTable.{pipe_rows};
 ghost use Rattle.cert_log.specs.Files.{HasControlValues};
 ghost use Rattle.cli_obligations.specs.Answers.{certificate_plan, recheck_plan};
 ghost use Rattle.cli_obligations.specs.Certified.{Rechecks, IsCertStop, cert_reason};
-ghost use Rattle.cli_checks.specs.Checks.{RefusesControl};
+ghost use Rattle.cli_verdicts.specs.Verdicts.{RefusesControl};
 ghost use Rattle.cli_plans.specs.Designs.{IsOrdered};
 ghost use Rattle.cli_plans.specs.PlanFollowing.{FollowsPlanOver, IsStageResultIn, WritesAnswerOn};
 
 use cert_log::{CertError, CertWhy, holds_line, recheck_file};
-use cli_checks::control_stop;
 use cli_plans::{InputFault, OrderedDesign, StopReason, pipe_file, read_file, write_answer};
+use cli_verdicts::control_stop;
 use ctl_atoms::{Atom, CtlFault, atoms};
 use std::alloc::Global;
 use wb_io::{Files, Sink};

@@ -2,14 +2,14 @@
 ghost use Rattle.std.specs.Prelude.{◌≡◌, ◌≤◌, IfErr, IfOk, List, ℕ};
 ghost use Rattle.dp_signals.specs.PipeTable.{pipe_rows};
 ghost use Rattle.cli_obligations.specs.Answers.{sample_plan};
-ghost use Rattle.cli_checks.specs.Checks.{RefusesControl};
+ghost use Rattle.cli_verdicts.specs.Verdicts.{RefusesControl};
 ghost use Rattle.cli_plans.specs.Designs.{IsOrdered};
 ghost use Rattle.cli_plans.specs.PlanFollowing.{FollowsPlanOver, RefusesWith, WritesAnswerOn};
 ghost use Rattle.cli_plans.specs.Plan.{done};
 ghost use Rattle.cli_obligations.specs.Samples.{IsSampled, SampleAnswers, found_line, none_line};
 
-use cli_checks::control_stop;
 use cli_plans::{OrderedDesign, StopReason, pipe_file};
+use cli_verdicts::control_stop;
 use control_check::{CheckFault, file_rules};
 use lane_eval::{Found, first_false};
 use std::alloc::Global;

@@ -16,7 +16,7 @@ use Rattle.yis_run.specs.Report.{report}
 use Rattle.yo_object.specs.ObjectText.{object_of}
 use Rattle.yo_object.specs.Printed.{printed}
 use Rattle.cli_runs.specs.Big.{BigAnswers}
-use Rattle.cli_checks.specs.Checks.{AnswersYesPipe, RefusesPipe}
+use Rattle.cli_verdicts.specs.Verdicts.{AnswersYesPipe, RefusesPipe}
 use Rattle.cli_plans.specs.Datapaths.{IsMachineRun, rows_of}
 use Rattle.cli_plans.specs.Designs.{IsDesign, RefusesDesign, RefusesHcl}
 use Rattle.cli_plans.specs.Lines.{assembly_fault_line}

@@ -11,10 +11,10 @@ ghost use Rattle.cli_runs.specs.PipeRuns.{ran_line};
 ghost use Rattle.yis_run.specs.Report as text;
 
 use crate::request::PipeRequest;
-use cli_checks::{PipeVerdictText, pipe_verdict};
 use cli_plans::{
     FILE_LIMIT, OrderedDesign, StopReason, load_image, pipe_file, read_file, status, write_answer,
 };
+use cli_verdicts::{PipeVerdictText, pipe_verdict};
 use dp_signals::constant_words;
 use hcl_compile::compile;
 use pipe_path::Pipe;

@@ -21,7 +21,7 @@ use Rattle.yo_object.specs.ObjectText.{object_of}
 use Rattle.y86_words.proofs.Legal.{form_legal}
 use Rattle.y86_words.specs.Forms.{form_of, psim, yis}
 use Rattle.y86_words.specs.Wording.{IsInRange}
-use Rattle.y86_cli.specs.CheckedRuns.{HasAccepted}
+use Rattle.y86_call_laws.specs.CheckedRuns.{HasAccepted}
 use Rattle.cli_runs.specs.Answers.{PipeAnswers, checked_plan, pipe_plan, psim_plan, yis_plan, yis_run}
 use Rattle.cli_plans.specs.Stages.{image_of_text, run_status}
 use Rattle.cli_plans.specs.Designs.{IsDesign, RefusesDesign}
@@ -29,9 +29,9 @@ use Rattle.cli_plans.specs.PlanFollowing.{FilesState, SinkState}
 use Rattle.cli_runs.specs.PipeRuns.{end_of, ran_line, run_text}
 use Rattle.cli_plans.specs.Plan.{Answer, MayBeAnswer, value_from}
 use Rattle.y86_cli.specs.CallContract.{CallContract}
-use Rattle.y86_cli.proofs.Agreement.{loads_ok}
-use Rattle.y86_cli.proofs.Bigs.{not_long, not_missing, not_refused, one_design, same_bytes}
-use Rattle.y86_cli.proofs.Loaded.{loaded_is_image}
+use Rattle.y86_call_laws.proofs.Agreement.{loads_ok}
+use Rattle.y86_call_laws.proofs.Bigs.{not_long, not_missing, not_refused, one_design, same_bytes}
+use Rattle.y86_call_laws.proofs.Loaded.{loaded_is_image}
 use Rattle.program_laws.specs.Prints.{PrintsReport, PrintsRun}
 
 -- ---- the watched run

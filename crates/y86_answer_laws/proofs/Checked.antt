@@ -15,7 +15,8 @@ use Rattle.bdd_decide.specs.Decisions.{IsLeastOf}
 use Rattle.ctl_verdicts.specs.ObligationSet as plain
 use Rattle.verdict_text.specs.PipeLines.{pipe_no, pipe_yes}
 use Rattle.y86_base.specs.declared.parts.Variant.{Variant}
-use Rattle.cli_checks.specs.Checks.{AnswersYesPipe, AnswersNoPipe, AnswersNoSeq, PipeChecks, RefusesControl, RefusesPipe, SeqChecks}
+use Rattle.cli_checks.specs.Checks.{AnswersNoSeq, PipeChecks, SeqChecks}
+use Rattle.cli_verdicts.specs.Verdicts.{AnswersYesPipe, AnswersNoPipe, RefusesControl, RefusesPipe}
 use Rattle.cli_checks.specs.Sequential.{Accepts, Rejects, no_text, questions_of}
 use Rattle.cli_plans.specs.Datapaths.{rows_of}
 use Rattle.cli_plans.specs.Lines.{blank_names, names_at, names_line}

@@ -17,7 +17,8 @@ use Rattle.cli_obligations.specs.AigerTexts.{AigAnswers, AigrunAnswers}
 use Rattle.cli_obligations.specs.Certified.{CertifiesPipe, PipeCertifies}
 use Rattle.verdict_text.specs.PipeLines.{pipe_yes}
 use Rattle.cli_runs.specs.Big.{BigAnswers}
-use Rattle.cli_checks.specs.Checks.{AnswersYesPipe, PipeChecks, RefusesPipe, SeqChecks}
+use Rattle.cli_checks.specs.Checks.{PipeChecks, SeqChecks}
+use Rattle.cli_verdicts.specs.Verdicts.{AnswersYesPipe, RefusesPipe}
 use Rattle.cli_plans.specs.Datapaths.{rows_of}
 use Rattle.cli_plans.specs.Designs.{IsDesign, RefusesDesign, RefusesHcl}
 use Rattle.cli_plans.specs.PlanFollowing.{FilesState, SinkState}

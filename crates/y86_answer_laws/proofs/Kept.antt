@@ -25,7 +25,7 @@ use Rattle.cli_plans.specs.PlanFollowing.{FilesState, SinkState}
 use Rattle.cli_plans.specs.Plan.{IsAnswerOf, Answer, HasContents, refused}
 use Rattle.y86_cli.specs.CallContract.{CallContract, DeliversOnBoth}
 use Rattle.cli_plans.specs.Calls.{WroteError}
-use Rattle.y86_cli.proofs.Agreement.{control_high, design_high, high}
+use Rattle.y86_call_laws.proofs.Agreement.{control_high, design_high, high}
 use Rattle.y86_answer_laws.specs.OneAnswer.{KeptCertificate}
 use Rattle.y86_answer_laws.proofs.Checked.{control_apart}
 use Rattle.y86_answer_laws.proofs.Designs.{design_apart, design_one, design_ordered}

@@ -1,6 +1,1 @@
-pub mod Agreement
-pub mod Bigs
-pub mod Certified
-pub mod Loaded
-pub mod Plans
 pub mod Ran

@@ -1,3 +1,2 @@
-pub mod CheckedRuns
 pub mod Answers
 pub mod CallContract

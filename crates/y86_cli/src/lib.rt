@@ -2,9 +2,7 @@
 #![tactic(auto)]
 
 mod calling;
-mod laws;
 mod running;
 
 pub use crate::calling::call;
-pub use crate::laws::{law_of_accepted_files, law_of_answers, law_of_big, law_of_plans};
 pub use crate::running::run;

@@ -1,7 +1,7 @@
 use Rattle.std.proofs.Common.{subst}
 use Rattle.cli_runs.specs.Answers.{checked_plan}
-use Rattle.cli_checks.specs.Checks.{IsPipeVerdictText}
-use Rattle.cli_checks.proofs.Checks.{not_told, said_denied}
+use Rattle.cli_verdicts.specs.Verdicts.{IsPipeVerdictText}
+use Rattle.cli_verdicts.proofs.Verdicts.{not_told, said_denied}
 use Rattle.cli_plans.proofs.Does.{one_ends, one_goes_on, one_refuses}
 use Rattle.cli_runs.proofs.psim.run_checked.Goals as goal
 

@@ -17,7 +17,7 @@ use Rattle.yis_run.specs.Report.{register_lines, report}
 use Rattle.yo_object.specs.ObjectText.{object_of}
 use Rattle.cli_plans.specs.Stages.{run_status}
 use Rattle.cli_obligations.specs.Certified.{HasCertified}
-use Rattle.cli_checks.specs.Checks.{AnswersNoPipe}
+use Rattle.cli_verdicts.specs.Verdicts.{AnswersNoPipe}
 use Rattle.cli_checks.specs.Sequential.{Accepts, RefinesRun}
 use Rattle.cli_plans.specs.Datapaths.{rows_of}
 use Rattle.cli_plans.specs.Designs.{IsDesign}

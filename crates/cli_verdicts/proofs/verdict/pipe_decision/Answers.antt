@@ -1,5 +1,5 @@
-use Rattle.cli_checks.proofs.Checks.{tells_no}
-use Rattle.cli_checks.proofs.verdict.pipe_decision.Goals as goal
+use Rattle.cli_verdicts.proofs.Verdicts.{tells_no}
+use Rattle.cli_verdicts.proofs.verdict.pipe_decision.Goals as goal
 
 pub returns-in-Ok-clause-verdict : goal.returns-in-Ok-clause-verdict
 returns-in-Ok-clause-verdict c =

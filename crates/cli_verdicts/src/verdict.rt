@@ -6,7 +6,7 @@ ghost use Rattle.dp_signals.specs.PipeTable.{pipe_rows};
 ghost use Rattle.hcl_types.specs.Tables.{row_names};
 ghost use Rattle.hcl_types.specs.declared.term.Term.{Term};
 ghost use Rattle.verdict_text.specs.PipeLines.{pipe_no};
-ghost use Rattle.cli_checks.specs.Checks.{IsPipeDecision, RefusesControl, IsPipeVerdictText};
+ghost use Rattle.cli_verdicts.specs.Verdicts.{IsPipeDecision, RefusesControl, IsPipeVerdictText};
 ghost use Rattle.cli_plans.specs.Designs.{IsOrdered};
 ghost use Rattle.cli_plans.specs.PlanFollowing.{RefusesWith};
 ghost use Rattle.cli_plans.specs.declared.stop_reason.StopReason.TheVariants.{Memory as WantOfMemory};
@@ -21,7 +21,7 @@ use verdict_text::{pipe_acceptance, pipe_refusal};
 use y86_base::Variant;
 
 /// The stop at a design without control values.
-#[tactic(auto, using(crate::proofs::Checks::mixed, crate::proofs::Checks::over))]
+#[tactic(auto, using(crate::proofs::Verdicts::mixed, crate::proofs::Verdicts::over))]
 pub fn control_stop<'a>(
     alloc: Global,
     name: &'a str,
@@ -88,7 +88,7 @@ fn pipe_no_text<'a>(
 }
 
 /// Decides a design for PIPE.
-#[tactic(auto, using(crate::proofs::Checks::tells_no))]
+#[tactic(auto, using(crate::proofs::Verdicts::tells_no))]
 pub fn pipe_decision<'a>(
     alloc: Global,
     name: &'a str,
@@ -117,7 +117,7 @@ pub fn pipe_decision<'a>(
 }
 
 /// Decides a design for PIPE, and returns the text of the verdict.
-#[tactic(auto, using(crate::proofs::Checks::tells_yes))]
+#[tactic(auto, using(crate::proofs::Verdicts::tells_yes))]
 pub fn pipe_verdict<'a>(
     alloc: Global,
     name: &'a str,

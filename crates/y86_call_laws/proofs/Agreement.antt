@@ -16,11 +16,11 @@ use Rattle.y86_isa.specs.declared.machine.Machine.{Machine}
 use Rattle.yis_run.specs.Report.{register_lines, report}
 use Rattle.yo_object.specs.ObjectText.{object_of}
 use Rattle.yo_object.specs.declared.object.YoFault.{YoFault}
-use Rattle.y86_cli.specs.CheckedRuns.{PrintsTheRun, HasAccepted, HasAcceptedSeq, CheckedRunIsRight, ToldAccepted, ToldAcceptedSeq, AnsweredNo}
+use Rattle.y86_call_laws.specs.CheckedRuns.{PrintsTheRun, HasAccepted, HasAcceptedSeq, CheckedRunIsRight, ToldAccepted, ToldAcceptedSeq, AnsweredNo}
 use Rattle.cli_runs.specs.Answers.{PipeAnswers, checked_plan, pipe_plan, psim_plan}
 use Rattle.cli_checks.specs.Answers.{check_pipe_plan, check_seq_plan}
 use Rattle.cli_plans.specs.Stages.{image_of_text}
-use Rattle.cli_checks.specs.Checks.{AnswersYesPipe, RefusesControl}
+use Rattle.cli_verdicts.specs.Verdicts.{AnswersYesPipe, RefusesControl}
 use Rattle.cli_plans.specs.Datapaths.{rows_of}
 use Rattle.cli_plans.specs.Designs.{IsDesign, RefusesDesign}
 use Rattle.cli_plans.specs.PlanFollowing.{FilesState, SinkState}
@@ -32,7 +32,7 @@ use Rattle.y86_cli.specs.CallContract.{CallContract, DeliversOnBoth}
 use Rattle.y86_words.proofs.Legal.{form_legal}
 use Rattle.cli_plans.specs.declared.datapath.Datapath.{Datapath}
 use Rattle.cli_plans.specs.declared.datapath.Datapath.TheVariants.{Seq, Plus}
-use Rattle.y86_cli.proofs.Loaded.{loaded_is_image}
+use Rattle.y86_call_laws.proofs.Loaded.{loaded_is_image}
 
 -- ---- a run that goes on to its end is a run
 

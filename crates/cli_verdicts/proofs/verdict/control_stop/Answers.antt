@@ -2,7 +2,7 @@ use Rattle.std.proofs.Common.{ℕ, List, codes, refl, inr, ap, subst}
 use Rattle.ctl_atoms.specs.Atoms.{IsCtlFault}
 use Rattle.cli_plans.specs.Lines.{names_line}
 use Rattle.cli_plans.specs.Plan.{refused}
-use Rattle.cli_checks.proofs.verdict.control_stop.Goals as goal
+use Rattle.cli_verdicts.proofs.verdict.control_stop.Goals as goal
 
 pub returns-in-AtomsOver64 : goal.returns-in-AtomsOver64
 returns-in-AtomsOver64 c = λ terms is.

@@ -18,7 +18,8 @@ use Rattle.y86_cli.specs.Answers.{plan_in, plan_of}
 use Rattle.cli_checks.specs.Answers.{check_pipe_plan, check_seq_plan}
 use Rattle.cli_runs.specs.Big.{BigAnswers}
 use Rattle.cli_obligations.specs.Certified.{PipeCertifies, Rechecks}
-use Rattle.cli_checks.specs.Checks.{PipeChecks, RefusesControl, RefusesPipe, SeqChecks}
+use Rattle.cli_checks.specs.Checks.{PipeChecks, SeqChecks}
+use Rattle.cli_verdicts.specs.Verdicts.{RefusesControl, RefusesPipe}
 use Rattle.cli_plans.specs.Datapaths.{rows_of}
 use Rattle.cli_plans.specs.Designs.{RefusesDesign}
 use Rattle.hcl_types.specs.declared.table.Row.{Row}

@@ -2,7 +2,7 @@
 ghost use Rattle.std.specs.Prelude.{◌≡◌, ◌≢◌, ◌⊎◌, ◌↔◌, ◌≤◌, Bool, List, [], ℕ, length, Option, Some, None, true};
 ghost use Rattle.wb_io.specs.Sinks.{Appended, AppendedPrefix};
 ghost use Rattle.y86_base.specs.declared.parts.Variant.{Variant};
-ghost use Rattle.y86_cli.specs.CheckedRuns.{HasAccepted, CheckedRunIsRight, ToldAccepted, ToldAcceptedSeq, ToldCertified, ToldCertifiedPart, AnsweredNo, WroteCertificate};
+ghost use Rattle.y86_call_laws.specs.CheckedRuns.{HasAccepted, CheckedRunIsRight, ToldAccepted, ToldAcceptedSeq, ToldCertified, ToldCertifiedPart, AnsweredNo, WroteCertificate};
 ghost use Rattle.y86_cli.specs.Answers.{plan_in};
 ghost use Rattle.cli_runs.specs.Answers.{yas_plan, yis_plan};
 ghost use Rattle.cli_runs.specs.Big.{AnsweredSame};

@@ -1,6 +1,6 @@
-use Rattle.y86_cli.proofs.Agreement.{accepting_plus_words, accepting_words, accepting_seq_words, agreeing_words}
-use Rattle.y86_cli.proofs.Certified.{breaking_words, certifying_words, never_one_words, rechecking_words}
-use Rattle.y86_cli.proofs.laws.law_of_accepted_files.Goals as goal
+use Rattle.y86_call_laws.proofs.Agreement.{accepting_plus_words, accepting_words, accepting_seq_words, agreeing_words}
+use Rattle.y86_call_laws.proofs.Certified.{breaking_words, certifying_words, never_one_words, rechecking_words}
+use Rattle.y86_call_laws.proofs.laws.law_of_accepted_files.Goals as goal
 
 pub returns-clause-check_seq : goal.returns-clause-check_seq
 returns-clause-check_seq c = accepting_seq_words

@@ -24,7 +24,7 @@ use Rattle.prog_cosim.specs.declared.both.CosimResult.{CosimResult}
 use Rattle.y86_words.proofs.Legal.{form_legal}
 use Rattle.y86_words.specs.Forms.{big, form_of}
 use Rattle.y86_words.specs.Wording.{IsInRange}
-use Rattle.y86_cli.specs.CheckedRuns.{HasAccepted}
+use Rattle.y86_call_laws.specs.CheckedRuns.{HasAccepted}
 use Rattle.cli_runs.specs.Answers.{big_plan}
 use Rattle.cli_runs.specs.Big.{BigAnswers, AnsweredSame, big_line, big_status}
 use Rattle.cli_plans.specs.Designs.{IsDesign, RefusesDesign}

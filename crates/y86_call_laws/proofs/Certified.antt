@@ -7,14 +7,14 @@ use Rattle.wb_io.specs.Sinks.{Appended, AppendedPrefix}
 use Rattle.cli_plans.specs.Designs.{RefusesDesign}
 use Rattle.y86_base.specs.declared.parts.Variant.{Variant}
 use Rattle.y86_words.specs.Forms.{certify_pipe, form_of, recheck}
-use Rattle.y86_cli.specs.CheckedRuns.{HasAccepted, ToldCertified, ToldCertifiedPart, WroteCertificate}
+use Rattle.y86_call_laws.specs.CheckedRuns.{HasAccepted, ToldCertified, ToldCertifiedPart, WroteCertificate}
 use Rattle.cli_obligations.specs.Answers.{certificate_plan, certify_pipe_plan, recheck_plan}
 use Rattle.cli_obligations.specs.Certified.{HasCertified}
-use Rattle.cli_checks.specs.Checks.{RefusesControl}
+use Rattle.cli_verdicts.specs.Verdicts.{RefusesControl}
 use Rattle.cli_plans.specs.PlanFollowing.{FilesState, SinkState}
 use Rattle.cli_plans.specs.Plan.{Answer, MayBeAnswer, done, refused}
 use Rattle.y86_cli.specs.CallContract.{CallContract}
-use Rattle.y86_cli.proofs.Agreement.{control_high, design_high, high}
+use Rattle.y86_call_laws.proofs.Agreement.{control_high, design_high, high}
 
 -- ---- what an answer with status 0 means
 

@@ -1,5 +1,5 @@
-use Rattle.y86_cli.proofs.Plans.{yas_one, yis_one, told_one, part_one}
-use Rattle.y86_cli.proofs.laws.law_of_plans.Goals as goal
+use Rattle.y86_call_laws.proofs.Plans.{yas_one, yis_one, told_one, part_one}
+use Rattle.y86_call_laws.proofs.laws.law_of_plans.Goals as goal
 
 pub returns-clause-yas : goal.returns-clause-yas
 returns-clause-yas c = yas_one

@@ -1,0 +1,5 @@
+pub mod Agreement
+pub mod Bigs
+pub mod Certified
+pub mod Loaded
+pub mod Plans

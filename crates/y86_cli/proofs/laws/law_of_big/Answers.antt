@@ -1,5 +1,0 @@
-use Rattle.y86_cli.proofs.Bigs.{told_same}
-use Rattle.y86_cli.proofs.laws.law_of_big.Goals as goal
-
-pub returns : goal.returns
-returns c = told_same
