@@ -7,7 +7,7 @@ import subprocess
 import time
 
 from programs import launcher
-from proving import crates_of, tell
+from proving import crates_to_prove, tell
 
 # The folders and files that are handed out.
 FOLDERS = ("examples", "tools", "web")
@@ -167,7 +167,7 @@ def readme(here, programs, built, files, has_solutions, has_page):
         pages="\n".join(pages),
         left_out="" if has_solutions else ", or solve exercises of the book",
         proved=what_is_proved(here),
-        crates=len(crates_of(here, programs)),
+        crates=len(crates_to_prove(here, programs)),
         date=time.strftime("%Y-%m-%d", time.gmtime(max(os.stat(it).st_mtime for it in built.values()))),
         toolchain=f" by the toolchain `{toolchain}`" if toolchain else "",
         commit=commit_of(here),

@@ -1,4 +1,4 @@
-"""Proves the crates that programs need, and builds the programs. As a script it prints how many jobs the prover can do at once."""
+"""Proves the crates that programs need, and the laws on them, and builds the programs. As a script it prints how many jobs the prover can do at once."""
 import os
 import re
 import shutil
@@ -7,6 +7,8 @@ import subprocess
 import sys
 import tempfile
 import time
+
+from programs import laws_on
 
 # A job of the prover takes up to so much memory, in bytes.
 OF_A_JOB = 2_000_000_000
@@ -47,6 +49,11 @@ def crates_of(here, programs):
     return found
 
 
+def crates_to_prove(here, programs):
+    """Returns the crates of the programs, those of the laws on them, and those that these need."""
+    return crates_of(here, [*programs, *laws_on(here, programs)])
+
+
 def number_in(file, pattern):
     try:
         with open(file, encoding="utf-8") as it:
@@ -80,7 +87,7 @@ def copied(here, crates, room):
 
 
 class Proof:
-    """A run of the gate's proofs, `rt ci`, over a copy of the crates that programs need. What it says goes to the file `log`."""
+    """A run of the gate's proofs, `rt ci`, over a copy of the crates to prove. What it says goes to the file `log`."""
 
     def __init__(self, room, number, log):
         self.log, self.number, self.told = log, number, []
@@ -173,7 +180,7 @@ def mark(here, program, sum_before):
 
 def proved(here, programs, room):
     """Proves the programs in a copy in the folder `room`, and brings them into the repository. Returns how long that took."""
-    crates = crates_of(here, programs)
+    crates = crates_to_prove(here, programs)
     sums = {it: sources(here, it, "sum")[1] for it in programs}
     copied(here, crates, room)
     os.makedirs(f"{here}/crates/{programs[0]}/out", exist_ok=True)

@@ -109,6 +109,20 @@ def test_no_crate_that_the_program_does_not_stand_on_is_proved(repository):
     same(os.path.exists(repository.out("tests")), False)
 
 
+def test_the_laws_on_a_program_are_proved_with_it(repository):
+    repository.add_laws("y86_call_laws")
+    status, _, err = repository.run([repository.prove])
+    same((status, [it.split()[1] for it in is_proved_lines(err)]), (0, [*ALL, "y86_call_laws"]))
+
+
+def test_laws_without_a_proof(repository):
+    repository.add_laws("y86_call_laws")
+    repository.write("crates/y86_call_laws/src/lib.rt", "no proof")
+    status, _, err = repository.run([repository.prove])
+    said = f"y86: no proof of y86_call_laws; {repository.out()}/prove.log says why"
+    same((status, err.splitlines()[-1], os.path.exists(f"{repository.out()}/y86")), (1, said, False))
+
+
 def test_programs_are_proved_together(repository):
     repository.add_program("y86_stages", "other", below="right")
     status, _, err = repository.run([repository.prove])
