@@ -1,18 +1,13 @@
 //! Answers a call: what it prints, and its exit status.
 ghost use Rattle.std.specs.Prelude.{◌≡◌};
-ghost use Rattle.tell_cli.specs.Stops.{status_of};
+ghost use Rattle.tell_faults.specs.Stops.{status_of};
 
-use crate::arguments::Call;
-use crate::checking::{Said, check_pipe};
-use crate::faulty::tell_faults;
-use crate::programs::{is_size, report_program};
-use crate::running::{is_limit, tell_run};
-use crate::sequential::{Question, check_sequential};
 use crate::showing::show;
-use crate::stop::Stop;
-use explanations::Path;
-use seq_requirements::Datapath;
 use std::alloc::Global;
+use tell_checks::check;
+use tell_faults::{Said, Stop, report_faults};
+use tell_runs::{report_program, tell_run};
+use tell_words::{Call, is_limit, is_size};
 use wb_io::{Files, Sink, put_all};
 
 /// The message for a memory whose size is no multiple of 8.
@@ -37,30 +32,7 @@ fn answer<F: Files, O: Sink>(
     out: &mut O,
 ) -> Result<u8, Stop> {
     match call {
-        Call::Check {
-            path,
-            hcl,
-            variant,
-            json,
-        } => match path {
-            Path::Pipe => say(check_pipe(alloc, hcl, variant, json, files)?, out),
-            Path::Seq => {
-                let asked = Question {
-                    which: Datapath::Seq,
-                    variant,
-                    json,
-                };
-                say(check_sequential(alloc, hcl, asked, files)?, out)
-            }
-            Path::SeqPlus => {
-                let asked = Question {
-                    which: Datapath::Plus,
-                    variant,
-                    json,
-                };
-                say(check_sequential(alloc, hcl, asked, files)?, out)
-            }
-        },
+        Call::Check { hcl, asked } => say(check(alloc, hcl, asked, files)?, out),
         Call::Program { obj, asked } => {
             if is_size(asked.size) {
                 report_program(alloc, obj, asked, files, out)
@@ -79,7 +51,7 @@ fn answer<F: Files, O: Sink>(
         }
         Call::Fault { file, asked } => {
             if is_size(asked.size) {
-                say(tell_faults(alloc, file, asked, files)?, out)
+                say(report_faults(alloc, file, asked, files)?, out)
             } else {
                 Err(Stop::Usage(ODD_SIZE))
             }

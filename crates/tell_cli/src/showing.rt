@@ -1,10 +1,8 @@
 //! `show`: what an obligation, an instruction, a signal or a kind of fault is.
-use crate::checking::{Said, json_text};
-use crate::faulty::tables;
-use crate::stop::Stop;
 use json::Writer;
 use show_text::{ShowMatches, found_of, put_found, put_found_json, put_names};
 use std::alloc::{AllocError, Global};
+use tell_faults::{Said, Stop, json_text, tables};
 use y86_base::Memory;
 
 /// The JSON of what was found.

@@ -3,17 +3,9 @@
 
 use std::process::ExitCode;
 use std::{env, io};
-use tell_cli::{call_of, respond};
+use tell_cli::respond;
+use tell_words::{call_of, misuse};
 use wb_io::{HostFiles, HostSink};
-
-/// Prints the error or help message of the command line, and returns the status: 2 unless it was a request for help.
-fn misuse<R: Print + Eprint>(rt: &R, error: &clap::Error) -> u8 {
-    let _ = error.print(rt);
-    match error.exit_code() {
-        0 => 0,
-        _ => 2,
-    }
-}
 
 fn main(rt: HostRuntime) -> ExitCode {
     let alloc = rt.alloc();

@@ -2,8 +2,8 @@
 use Rattle.std.specs.Prelude.{ℕ}
 use Rattle.wb_io.specs.declared.files.ReadErr.{ReadErr}
 use Rattle.wb_io.specs.declared.files.ReadErr.TheVariants as reads
-use Rattle.tell_cli.specs.declared.stop.Stop.{Stop}
-use Rattle.tell_cli.specs.declared.stop.Stop.TheVariants.{Usage, Read, Write, Fault, TooLong, Memory}
+use Rattle.tell_faults.specs.declared.stop.Stop.{Stop}
+use Rattle.tell_faults.specs.declared.stop.Stop.TheVariants.{Usage, Read, Write, Fault, TooLong, Memory}
 
 abbrev pub status_of : Stop → ℕ
 status_of (Usage text) = 2

@@ -8,7 +8,7 @@ use Rattle.run_report.specs.Outcome.{IsOutcome, is_covered}
 use Rattle.run_report.specs.declared.outcome.Outcome.{Outcome}
 use Rattle.y86_base.specs.declared.parts.Variant.{Variant}
 use Rattle.yo_object.specs.ObjectText.{object_of}
-use Rattle.tell_cli.specs.Explained.{HasDesign}
+use Rattle.tell_faults.specs.Designs.{HasDesign}
 
 -- The outcome is that of the image of an object text under the design of an HCL text. If the theorem covers the run,
 -- nothing differs.

@@ -1,17 +1,16 @@
-//! The design of an HCL text over a table, or why there is none.
-ghost use Rattle.std.specs.Prelude.{◌≡◌, IfOk};
+//! The design of an HCL text, or why there is none.
+ghost use Rattle.std.specs.Prelude.{IfOk};
 ghost use Rattle.hcl_types.specs.Tables.{IsSound};
-ghost use Rattle.seq_requirements.specs.Datapaths.{rows_of};
-ghost use Rattle.tell_cli.specs.Explained.{HasDesign, HasDesignOver, IsOrdered, IsOrderedOver};
+ghost use Rattle.tell_faults.specs.Designs.{HasDesignOver, IsOrderedOver, rows_of};
 
-use dp_signals::{law_of_tables, pipe_table};
-use finding_text::{CasePlace, ExplainedFile};
+use crate::datapaths::table_of;
+use crate::faulty::{hcl_faults_of, report_stop};
+use crate::stop::Stop;
+use explanations::Path;
 use hcl_binding::{BindWhy, bind};
 use hcl_order::{OrderFault, order};
 use hcl_read::{HclWhy, read};
 use hcl_types::{Design, Order, Table};
-use seq_plus::law_of_table;
-use seq_requirements::{Datapath, table_of};
 use std::alloc::Global;
 
 /// A table, a design over it, and an order of the design's signals.
@@ -20,18 +19,6 @@ pub struct Ordered {
     pub table: Table,
     pub design: Design,
     pub order: Order,
-}
-
-/// What the findings on the file of a design are explained with.
-pub fn explained_file<'a>(ordered: &'a Ordered, cases: &'a [CasePlace<'a>]) -> ExplainedFile<'a>
-    ensures rows { result.rows.now ≡ ordered.now.table.rows }
-    ensures terms { result.terms.now ≡ ordered.now.design.terms }
-{
-    ExplainedFile {
-        rows: ordered.table.rows.items(),
-        terms: ordered.design.terms.items(),
-        cases,
-    }
 }
 
 /// Why a text has no design.
@@ -78,27 +65,21 @@ fn design_over(alloc: Global, source: &[u8], table: Table) -> Result<Ordered, No
     }
 }
 
-/// The design of an HCL text for PIPE.
-pub fn pipe_design(alloc: Global, source: &[u8]) -> Result<Ordered, NoDesign>
-    ensures design { IfOk result (λ ordered. HasDesign source.now ordered.design.terms) }
-    ensures ordered { IfOk result IsOrdered }
+/// The design of an HCL text for a datapath.
+pub fn design_of(alloc: Global, path: Path, source: &[u8]) -> Result<Ordered, NoDesign>
+    ensures design { IfOk result (λ ordered. HasDesignOver (rows_of path) source.now ordered.design.terms) }
+    ensures ordered { IfOk result (IsOrderedOver (rows_of path)) }
 {
-    law_of_tables();
-    match pipe_table(alloc) {
+    match table_of(alloc, path) {
         Ok(table) => design_over(alloc, source, table),
         Err(_) => Err(NoDesign::Memory),
     }
 }
 
-/// The design of an HCL text for SEQ or SEQ+.
-pub fn seq_design(alloc: Global, which: Datapath, source: &[u8]) -> Result<Ordered, NoDesign>
-    ensures design { IfOk result (λ ordered. HasDesignOver (rows_of which) source.now ordered.design.terms) }
-    ensures ordered { IfOk result (IsOrderedOver (rows_of which)) }
-{
-    law_of_tables();
-    law_of_table();
-    match table_of(alloc, which) {
-        Ok(table) => design_over(alloc, source, table),
-        Err(_) => Err(NoDesign::Memory),
+/// The stop at a text without a design: every fault of it.
+pub fn fault_stop(alloc: Global, file: &str, source: &[u8], path: Path, fault: &NoDesign) -> Stop {
+    match fault {
+        NoDesign::Memory => Stop::Memory,
+        NoDesign::Refused => report_stop(alloc, file, hcl_faults_of(alloc, source, Some(path))),
     }
 }

@@ -3,35 +3,23 @@ ghost use Rattle.std.specs.Prelude.{◌≡◌, ◌≢◌, ◌↔◌, ◌<◌, �
 ghost use Rattle.run_report.specs.Outcome.{is_same};
 ghost use Rattle.run_report.specs.declared.outcome.Outcome.{Outcome};
 ghost use Rattle.y86_base.specs.Image.{IsSize};
-ghost use Rattle.tell_cli.specs.Running.{IsRun};
+ghost use Rattle.tell_runs.specs.Running.{IsRun};
 
-use crate::checking::{HCL_LIMIT, Said, fault_stop, json_text};
-use crate::designs::{NoDesign, Ordered, pipe_design};
-use crate::programs::{OBJECT_LIMIT, object_stop, text_stop};
-use crate::stop::{Stop, unread};
-use fault_report::{Datapath, is_source};
+use explanations::Path;
+use fault_report::is_source;
 use hcl_types::{Row, Table};
 use json::Writer;
 use run_report::{
     Judged, Outcome, OutcomeRequest, object_outcome, outcome_status, put_outcome, put_outcome_json,
 };
 use std::alloc::{AllocError, Global};
+use tell_faults::{
+    HCL_LIMIT, NoDesign, OBJECT_LIMIT, Ordered, Said, Stop, design_of, fault_stop, json_text,
+    object_stop, text_stop, unread,
+};
+use tell_words::RunQuestion;
 use wb_io::Files;
-use y86_base::Variant;
 use yo_object::YoFault;
-
-/// The parameters of `run` apart from its files.
-#[derive(Clone, Copy, Debug)]
-pub struct Asked {
-    pub variant: Variant,
-    /// The bytes of memory.
-    pub size: u64,
-    /// The most cycles.
-    pub limit: u64,
-    pub json: bool,
-    /// Whether the check is run too.
-    pub checked: bool,
-}
 
 /// Why there is no run.
 #[derive(Clone, Copy, Debug)]
@@ -49,21 +37,14 @@ struct Run {
     outcome: Outcome,
 }
 
-/// Whether a run may have this limit of cycles.
-pub fn is_limit(limit: u64) -> bool
-    ensures { result ≡ true → limit < 2 ^ 63 }
-{
-    limit >= 1 && limit <= 100_000_000
-}
-
 /// Runs an object text under an HCL text, and by its instructions.
-fn run_texts(alloc: Global, source: &[u8], object: &[u8], asked: &Asked) -> Result<Run, NoRun>
+fn run_texts(alloc: Global, source: &[u8], object: &[u8], asked: &RunQuestion) -> Result<Run, NoRun>
     requires size { IsSize asked.now.size }
     requires limit { asked.now.limit < 2 ^ 63 }
     ensures run { IfOk result (λ run. IsRun asked.now.variant source.now object.now asked.now.size asked.now.limit run.outcome) }
     ensures asked { IfOk result (λ run. (asked.now.checked ≡ true) ↔ (run.outcome.judged ≢ Judged.Unasked)) }
 {
-    let ordered = match pipe_design(alloc, source) {
+    let ordered = match design_of(alloc, Path::Pipe, source) {
         Ok(ordered) => ordered,
         Err(fault) => return Err(NoRun::Design(fault)),
     };
@@ -91,7 +72,7 @@ fn run_texts(alloc: Global, source: &[u8], object: &[u8], asked: &Asked) -> Resu
 /// The output for an outcome.
 fn outcome_text(
     alloc: Global,
-    asked: &Asked,
+    asked: &RunQuestion,
     rows: &[Row],
     outcome: &Outcome,
 ) -> Result<Vec<u8>, AllocError> {
@@ -108,7 +89,7 @@ fn outcome_text(
 }
 
 /// The output for a run, and the status, which is 0 exactly if both runs ended alike.
-fn said_of(alloc: Global, asked: &Asked, run: &Run) -> Result<Said, AllocError>
+fn said_of(alloc: Global, asked: &RunQuestion, run: &Run) -> Result<Said, AllocError>
     ensures { IfOk result (λ said. (said.status ≡ 0) ↔ (is_same run.now.outcome.compared ≡ true)) }
 {
     Ok(Said {
@@ -122,7 +103,7 @@ pub fn tell_run<F: Files>(
     alloc: Global,
     hcl: &str,
     obj: &str,
-    asked: &Asked,
+    asked: &RunQuestion,
     files: &mut F,
 ) -> Result<Said, Stop>
     requires size { IsSize asked.now.size }
@@ -142,7 +123,7 @@ pub fn tell_run<F: Files>(
             alloc,
             hcl,
             source.as_slice(),
-            Datapath::Pipe,
+            Path::Pipe,
             &fault,
         )),
         Err(NoRun::Object(fault)) => Err(object_stop(

@@ -1,6 +1,6 @@
 //! Why a call ends without an answer: the status of each stop, and its message on standard error.
 ghost use Rattle.std.specs.Prelude.{◌≡◌};
-ghost use Rattle.tell_cli.specs.Stops as spec;
+ghost use Rattle.tell_faults.specs.Stops as spec;
 
 use std::alloc::AllocError;
 use wb_io::ReadErr;

@@ -1,8 +1,6 @@
 //! The arguments of a call.
-use crate::faulty::FaultQuestion;
-use crate::programs::ProgramQuestion;
-use crate::running::Asked;
-use clap::{Arg, ArgAction, Command, Error};
+use crate::questions::{CheckQuestion, FaultQuestion, ProgramQuestion, RunQuestion};
+use clap::{Arg, ArgAction, ArgMatches, Command, Error};
 use explanations::Path;
 use std::alloc::{AllocError, Global};
 use y86_base::Variant;
@@ -12,10 +10,8 @@ use y86_base::Variant;
 pub enum Call<'a> {
     /// Explain the verdict on an HCL file.
     Check {
-        path: Path,
         hcl: &'a str,
-        variant: Variant,
-        json: bool,
+        asked: CheckQuestion,
     },
     /// Report whether the theorem covers the program of an object file.
     Program {
@@ -26,7 +22,7 @@ pub enum Call<'a> {
     Run {
         hcl: &'a str,
         obj: &'a str,
-        asked: Asked,
+        asked: RunQuestion,
     },
     /// Report every fault of a file.
     Fault {
@@ -202,8 +198,82 @@ fn asked_path(name: Option<&str>) -> Option<Path> {
 }
 
 /// The instruction set, by whether `--full` is given.
-fn variant_of(full: bool) -> Variant {
-    if full { Variant::Full } else { Variant::Base }
+fn variant_of(own: &ArgMatches<'_>) -> Variant {
+    if own.get_flag("full") {
+        Variant::Full
+    } else {
+        Variant::Base
+    }
+}
+
+/// The bytes of memory.
+fn memory_of(own: &ArgMatches<'_>) -> u64 {
+    own.get_one::<u64>("mem").unwrap_or(8192)
+}
+
+/// The most instructions, or the most cycles.
+fn limit_of(own: &ArgMatches<'_>) -> u64 {
+    own.get_one::<u64>("limit").unwrap_or(10_000)
+}
+
+/// The call of `check` with these arguments.
+fn check_call<'a>(own: &ArgMatches<'a>) -> Call<'a> {
+    Call::Check {
+        hcl: own.get_str("hcl").unwrap_or(""),
+        asked: CheckQuestion {
+            path: path_of(own.get_str("path").unwrap_or("pipe")),
+            variant: variant_of(own),
+            json: own.get_flag("json"),
+        },
+    }
+}
+
+/// The call of `program` with these arguments.
+fn program_call<'a>(own: &ArgMatches<'a>) -> Call<'a> {
+    Call::Program {
+        obj: own.get_str("obj").unwrap_or(""),
+        asked: ProgramQuestion {
+            variant: variant_of(own),
+            size: memory_of(own),
+            limit: limit_of(own),
+        },
+    }
+}
+
+/// The call of `run` with these arguments.
+fn run_call<'a>(own: &ArgMatches<'a>) -> Call<'a> {
+    Call::Run {
+        hcl: own.get_str("hcl").unwrap_or(""),
+        obj: own.get_str("obj").unwrap_or(""),
+        asked: RunQuestion {
+            variant: variant_of(own),
+            size: memory_of(own),
+            limit: limit_of(own),
+            json: own.get_flag("json"),
+            checked: !own.get_flag("unchecked"),
+        },
+    }
+}
+
+/// The call of `fault` with these arguments.
+fn fault_call<'a>(own: &ArgMatches<'a>) -> Call<'a> {
+    Call::Fault {
+        file: own.get_str("file").unwrap_or(""),
+        asked: FaultQuestion {
+            path: asked_path(own.get_str("path")),
+            variant: variant_of(own),
+            size: memory_of(own),
+            json: own.get_flag("json"),
+        },
+    }
+}
+
+/// The call of `show` with these arguments.
+fn show_call<'a>(own: &ArgMatches<'a>) -> Call<'a> {
+    Call::Show {
+        word: own.get_str("word"),
+        json: own.get_flag("json"),
+    }
 }
 
 /// Reads the arguments, the program's own name first. `None` if they name no command.
@@ -213,44 +283,20 @@ pub fn call_of<'a>(alloc: Global, words: &'a [String]) -> Result<Option<Call<'a>
         return Ok(None);
     };
     Ok(match name {
-        "check" => Some(Call::Check {
-            path: path_of(own.get_str("path").unwrap_or("pipe")),
-            hcl: own.get_str("hcl").unwrap_or(""),
-            variant: variant_of(own.get_flag("full")),
-            json: own.get_flag("json"),
-        }),
-        "program" => Some(Call::Program {
-            obj: own.get_str("obj").unwrap_or(""),
-            asked: ProgramQuestion {
-                variant: variant_of(own.get_flag("full")),
-                size: own.get_one::<u64>("mem").unwrap_or(8192),
-                limit: own.get_one::<u64>("limit").unwrap_or(10_000),
-            },
-        }),
-        "run" => Some(Call::Run {
-            hcl: own.get_str("hcl").unwrap_or(""),
-            obj: own.get_str("obj").unwrap_or(""),
-            asked: Asked {
-                variant: variant_of(own.get_flag("full")),
-                size: own.get_one::<u64>("mem").unwrap_or(8192),
-                limit: own.get_one::<u64>("limit").unwrap_or(10_000),
-                json: own.get_flag("json"),
-                checked: !own.get_flag("unchecked"),
-            },
-        }),
-        "fault" => Some(Call::Fault {
-            file: own.get_str("file").unwrap_or(""),
-            asked: FaultQuestion {
-                path: asked_path(own.get_str("path")),
-                variant: variant_of(own.get_flag("full")),
-                size: own.get_one::<u64>("mem").unwrap_or(8192),
-                json: own.get_flag("json"),
-            },
-        }),
-        "show" => Some(Call::Show {
-            word: own.get_str("word"),
-            json: own.get_flag("json"),
-        }),
+        "check" => Some(check_call(own)),
+        "program" => Some(program_call(own)),
+        "run" => Some(run_call(own)),
+        "fault" => Some(fault_call(own)),
+        "show" => Some(show_call(own)),
         _ => None,
     })
+}
+
+/// Prints the error or help message of the command line, and returns the status: 2 unless it was a request for help.
+pub fn misuse<R: Print + Eprint>(rt: &R, error: &Error) -> u8 {
+    let _ = error.print(rt);
+    match error.exit_code() {
+        0 => 0,
+        _ => 2,
+    }
 }

@@ -1,20 +1,18 @@
 //! `fault`: every fault of a file, in sentences or as JSON.
 ghost use Rattle.std.specs.Prelude.{◌≡◌, ◌↔◌, [], IfOk};
-ghost use Rattle.hcl_types.specs.Tables.{IsSound};
 ghost use Rattle.y86_base.specs.Image.{IsSize};
-ghost use Rattle.tell_cli.specs.Faults as spec;
+ghost use Rattle.tell_faults.specs.Faults as spec;
 
-use crate::checking::{HCL_LIMIT, Said};
-use crate::programs::OBJECT_LIMIT;
+use crate::datapaths::tables;
+use crate::said::Said;
 use crate::stop::{Stop, unread};
-use dp_signals::{law_of_tables, pipe_table, seq_table};
 use explanations::Path;
 use fault_output::{report_json, report_text};
-use fault_report::{Datapath, Report, Tables, assembly_report, hcl_report, object_report};
-use seq_plus::{law_of_table, plus_table};
+use fault_report::{Datapath, Report, assembly_report, hcl_report, object_report};
 use std::alloc::Global;
+use tell_words::FaultQuestion;
 use wb_io::Files;
-use y86_base::{Memory, Variant};
+use y86_base::Memory;
 
 /// What a file is, by the end of its name.
 #[derive(Clone, Copy, Debug, PartialEq, Eq)]
@@ -24,18 +22,11 @@ enum Kind {
     Object,
 }
 
-/// The parameters of `fault` apart from its file.
-#[derive(Clone, Copy, Debug)]
-pub struct FaultQuestion {
-    /// The datapath that an HCL file is for; without one, the datapath whose names fit best.
-    pub path: Option<Path>,
-    /// The instruction set that a source is assembled for.
-    pub variant: Variant,
-    /// The bytes of memory.
-    pub size: u64,
-    /// Whether the faults are printed as JSON.
-    pub json: bool,
-}
+/// The most bytes of an HCL file.
+pub const HCL_LIMIT: u64 = 65_536;
+
+/// The most bytes of an object file.
+pub const OBJECT_LIMIT: u64 = 1_048_576;
 
 /// The most bytes of a source.
 const SOURCE_LIMIT: u64 = 1_048_576;
@@ -61,34 +52,6 @@ fn kind_of(file: &str) -> Kind {
     }
 }
 
-/// The tables of the three datapaths.
-pub fn tables(alloc: Global) -> Result<Tables, Memory>
-    ensures seq { IfOk result (λ t. IsSound t.seq.rows) }
-    ensures seq_plus { IfOk result (λ t. IsSound t.seq_plus.rows) }
-    ensures pipe { IfOk result (λ t. IsSound t.pipe.rows) }
-{
-    law_of_tables();
-    law_of_table();
-    let seq = seq_table(alloc)?;
-    let seq_plus = plus_table(alloc)?;
-    let pipe = pipe_table(alloc)?;
-    Ok(Tables {
-        seq,
-        seq_plus,
-        pipe,
-    })
-}
-
-/// The faults of an HCL text, for the datapath that is asked for, or for the one whose names fit best.
-pub fn hcl_faults_of(
-    alloc: Global,
-    text: &[u8],
-    asked: Option<Datapath>,
-) -> Result<Report, Memory> {
-    let tables = tables(alloc)?;
-    hcl_report(alloc, text, &tables, asked)
-}
-
 /// The datapath that is asked for, as reports name it.
 fn datapath_of(asked: Option<Path>) -> Option<Datapath> {
     match asked {
@@ -99,19 +62,25 @@ fn datapath_of(asked: Option<Path>) -> Option<Datapath> {
     }
 }
 
+/// The faults of an HCL text, for the datapath that is asked for, or for the one whose names fit best.
+pub fn hcl_faults_of(alloc: Global, text: &[u8], asked: Option<Path>) -> Result<Report, Memory> {
+    let tables = tables(alloc)?;
+    hcl_report(alloc, text, &tables, datapath_of(asked))
+}
+
 /// The faults of a text.
 fn report_of(alloc: Global, kind: Kind, text: &[u8], asked: FaultQuestion) -> Result<Report, Memory>
     requires { IsSize asked.size }
 {
     match kind {
-        Kind::Hcl => hcl_faults_of(alloc, text, datapath_of(asked.path)),
+        Kind::Hcl => hcl_faults_of(alloc, text, asked.path),
         Kind::Assembly => assembly_report(alloc, asked.variant, text, asked.size),
         Kind::Object => object_report(alloc, text, asked.size),
     }
 }
 
 /// The output for a report.
-pub fn printed(alloc: Global, file: &str, report: &Report, json: bool) -> Result<Vec<u8>, Memory>
+fn printed(alloc: Global, file: &str, report: &Report, json: bool) -> Result<Vec<u8>, Memory>
     ensures { IfOk result (λ text. text.items ≡ spec.printed json file.now report.now) }
 {
     if json {
@@ -124,6 +93,17 @@ pub fn printed(alloc: Global, file: &str, report: &Report, json: bool) -> Result
         };
     }
     report_text(alloc, file.as_bytes(), report)
+}
+
+/// The stop at a file with these faults.
+pub fn report_stop(alloc: Global, file: &str, report: Result<Report, Memory>) -> Stop {
+    let Ok(report) = report else {
+        return Stop::Memory;
+    };
+    match printed(alloc, file, &report, false) {
+        Ok(text) => Stop::Fault(text),
+        Err(_) => Stop::Memory,
+    }
 }
 
 /// The output for a report, and the status: 5 if it has a fault.
@@ -140,7 +120,7 @@ fn said_of(alloc: Global, file: &str, report: &Report, json: bool) -> Result<Sai
 }
 
 /// Prints every fault of a file. The status is 5 if there is one.
-pub fn tell_faults<F: Files>(
+pub fn report_faults<F: Files>(
     alloc: Global,
     file: &str,
     asked: FaultQuestion,

@@ -1,0 +1,81 @@
+//! `check`: the verdict on an HCL file, explained.
+ghost use Rattle.std.specs.Prelude.{◌≡◌};
+
+use crate::cases::case_places;
+use crate::pipe::explain_pipe;
+use crate::sequential::explain_sequential;
+use control_check::CheckFault;
+use ctl_atoms::CtlFault;
+use explanations::Path;
+use finding_text::{CasePlace, ExplainedFile, name_of};
+use hcl_types::Row;
+use seq_requirements::Datapath;
+use std::alloc::{AllocError, Global};
+use tell_faults::{HCL_LIMIT, Ordered, Said, Stop, design_of, fault_stop, unread};
+use tell_words::CheckQuestion;
+use wb_io::Files;
+
+/// What the findings on the file of a design are explained with.
+fn explained_file<'a>(ordered: &'a Ordered, cases: &'a [CasePlace<'a>]) -> ExplainedFile<'a>
+    ensures rows { result.rows.now ≡ ordered.now.table.rows }
+    ensures terms { result.terms.now ≡ ordered.now.design.terms }
+{
+    ExplainedFile {
+        rows: ordered.table.rows.items(),
+        terms: ordered.design.terms.items(),
+        cases,
+    }
+}
+
+/// The stop at a design without control values.
+fn control_stop(
+    alloc: Global,
+    file: &str,
+    rows: &[Row],
+    fault: CtlFault,
+) -> Result<Stop, AllocError> {
+    let mut out = String::from_str(alloc, file)?;
+    match fault {
+        CtlFault::Mixed(id) => {
+            let name = name_of(rows, id);
+            write!(
+                out,
+                ": {name} joins a code with a word of the datapath, and the check has no meaning for that.\n"
+            )?;
+        }
+        CtlFault::AtomsOver64 => out.push_str(
+            ": the definitions compare more than 64 different pairs of words, too many for the check.\n",
+        )?,
+        CtlFault::Memory => return Ok(Stop::Memory),
+    }
+    Ok(Stop::Fault(out.into_bytes()))
+}
+
+/// Explains the verdict on an HCL file.
+pub fn check<F: Files>(
+    alloc: Global,
+    hcl: &str,
+    asked: CheckQuestion,
+    files: &mut F,
+) -> Result<Said, Stop> {
+    let source = match files.read(alloc, hcl, HCL_LIMIT) {
+        Ok(source) => source,
+        Err(error) => return Err(unread(error)),
+    };
+    let ordered = match design_of(alloc, asked.path, source.as_slice()) {
+        Ok(ordered) => ordered,
+        Err(fault) => return Err(fault_stop(alloc, hcl, source.as_slice(), asked.path, &fault)),
+    };
+    let cases = case_places(alloc, source.as_slice())?;
+    let file = explained_file(&ordered, cases.as_slice());
+    let said = match asked.path {
+        Path::Pipe => explain_pipe(alloc, asked, &ordered, &file),
+        Path::Seq => explain_sequential(alloc, Datapath::Seq, asked, &ordered, &file),
+        Path::SeqPlus => explain_sequential(alloc, Datapath::Plus, asked, &ordered, &file),
+    };
+    match said {
+        Ok(said) => Ok(said),
+        Err(CheckFault::Ctl(fault)) => Err(control_stop(alloc, hcl, file.rows, fault)?),
+        Err(CheckFault::Memory) => Err(Stop::Memory),
+    }
+}

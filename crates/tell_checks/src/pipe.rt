@@ -1,0 +1,103 @@
+//! `check pipe`: the verdict on a design for PIPE, explained.
+ghost use Rattle.std.specs.Prelude.{◌≡◌, ◌↔◌, IfOk, true};
+ghost use Rattle.pipe_refusals.specs.Answered.{is_yes};
+ghost use Rattle.tell_faults.specs.Designs.{IsOrdered};
+ghost use Rattle.tell_checks.specs.Explained.{Answers};
+
+use crate::yes::put_yes_facts;
+use control_check::CheckFault;
+use finding_text::{ExplainedFile, names_iaddq, put_unasked};
+use json::Writer;
+use pipe_diagnosis::Refusal;
+use pipe_motion::Settings;
+use pipe_refusals::{PipeAnswer, diagnose_pipe};
+use refusal_text::{put_refusal, put_refusal_json, put_settings, put_settings_json};
+use std::alloc::{AllocError, Global};
+use tell_faults::{Ordered, Said, json_text};
+use tell_words::CheckQuestion;
+use y86_base::Variant;
+
+/// The verdict on a design, and the diagnosis of a refusal.
+fn answer_pipe(alloc: Global, variant: Variant, ordered: &Ordered) -> Result<PipeAnswer, CheckFault>
+    requires { IsOrdered ordered.now }
+    ensures { IfOk result (Answers variant ordered.now.design.terms) }
+{
+    diagnose_pipe(alloc, variant, &ordered.design, &ordered.order)
+}
+
+/// The output for an accepted file.
+fn yes_text(
+    alloc: Global,
+    asked: CheckQuestion,
+    file: &ExplainedFile<'_>,
+    settings: &Settings,
+) -> Result<Vec<u8>, AllocError> {
+    let is_named = names_iaddq(alloc, file.rows, file.terms)?;
+    if asked.json {
+        let mut out = Writer::new(Vec::new(alloc));
+        out.begin_object()?;
+        put_yes_facts(&mut out, asked.variant, is_named)?;
+        out.key("settings")?;
+        put_settings_json(&mut out, settings)?;
+        out.end_object()?;
+        return json_text(out);
+    }
+    let mut out = String::new(alloc);
+    put_settings(&mut out, settings)?;
+    put_unasked(&mut out, asked.variant, is_named)?;
+    Ok(out.into_bytes())
+}
+
+/// The output for a refusal.
+fn no_text(
+    alloc: Global,
+    asked: CheckQuestion,
+    file: &ExplainedFile<'_>,
+    refusal: &Refusal,
+) -> Result<Vec<u8>, AllocError> {
+    if asked.json {
+        let mut out = Writer::new(Vec::new(alloc));
+        put_refusal_json(alloc, &mut out, asked.variant, file, refusal)?;
+        return json_text(out);
+    }
+    let mut out = String::new(alloc);
+    put_refusal(alloc, &mut out, asked.variant, file, refusal)?;
+    Ok(out.into_bytes())
+}
+
+/// The output for an answer.
+fn answer_text(
+    alloc: Global,
+    asked: CheckQuestion,
+    file: &ExplainedFile<'_>,
+    answer: &PipeAnswer,
+) -> Result<Said, AllocError>
+    ensures { IfOk result (λ said. (said.status ≡ 0) ↔ (is_yes answer.now ≡ true)) }
+{
+    match answer {
+        PipeAnswer::Yes(settings) => Ok(Said {
+            status: 0,
+            text: yes_text(alloc, asked, file, settings)?,
+        }),
+        PipeAnswer::No(refusal) => Ok(Said {
+            status: 1,
+            text: no_text(alloc, asked, file, refusal)?,
+        }),
+    }
+}
+
+/// Explains the verdict on a design for PIPE.
+pub fn explain_pipe(
+    alloc: Global,
+    asked: CheckQuestion,
+    ordered: &Ordered,
+    file: &ExplainedFile<'_>,
+) -> Result<Said, CheckFault>
+    requires { IsOrdered ordered.now }
+{
+    let answer = answer_pipe(alloc, asked.variant, ordered)?;
+    match answer_text(alloc, asked, file, &answer) {
+        Ok(said) => Ok(said),
+        Err(_) => Err(CheckFault::Memory),
+    }
+}

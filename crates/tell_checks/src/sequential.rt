@@ -1,0 +1,110 @@
+//! `check seq` and `check seqplus`: the verdict on a design for SEQ or SEQ+, explained.
+ghost use Rattle.std.specs.Prelude.{◌≡◌, ◌↔◌, IfOk, true};
+ghost use Rattle.seq_refusals.specs.Answered.{is_yes};
+ghost use Rattle.seq_requirements.specs.Datapaths.{rows_of};
+ghost use Rattle.tell_faults.specs.Designs.{IsOrderedOver};
+ghost use Rattle.tell_checks.specs.Explained.{SeqAnswers};
+
+use crate::yes::put_yes_facts;
+use control_check::CheckFault;
+use finding_text::{ExplainedFile, names_iaddq, put_unasked};
+use json::Writer;
+use seq_diagnosis::Refusal;
+use seq_refusal_text::{put_seq_refusal, put_seq_refusal_json, put_seq_yes};
+use seq_refusals::{SeqAnswer, diagnose_seq};
+use seq_requirements::Datapath;
+use std::alloc::{AllocError, Global};
+use tell_faults::{Ordered, Said, json_text};
+use tell_words::CheckQuestion;
+use y86_base::Variant;
+
+/// The verdict on a design, and the diagnosis of a refusal.
+fn answer_sequential(
+    alloc: Global,
+    which: Datapath,
+    variant: Variant,
+    ordered: &Ordered,
+) -> Result<SeqAnswer, CheckFault>
+    requires { IsOrderedOver (rows_of which) ordered.now }
+    ensures { IfOk result (SeqAnswers which variant ordered.now.design.terms) }
+{
+    diagnose_seq(alloc, which, variant, &ordered.design, &ordered.order)
+}
+
+/// The output for an accepted file.
+fn yes_text(
+    alloc: Global,
+    which: Datapath,
+    asked: CheckQuestion,
+    file: &ExplainedFile<'_>,
+) -> Result<Vec<u8>, AllocError> {
+    let is_named = names_iaddq(alloc, file.rows, file.terms)?;
+    if asked.json {
+        let mut out = Writer::new(Vec::new(alloc));
+        out.begin_object()?;
+        put_yes_facts(&mut out, asked.variant, is_named)?;
+        out.end_object()?;
+        return json_text(out);
+    }
+    let mut out = String::new(alloc);
+    put_seq_yes(&mut out, which)?;
+    put_unasked(&mut out, asked.variant, is_named)?;
+    Ok(out.into_bytes())
+}
+
+/// The output for a refusal.
+fn no_text(
+    alloc: Global,
+    which: Datapath,
+    asked: CheckQuestion,
+    file: &ExplainedFile<'_>,
+    refusal: &Refusal,
+) -> Result<Vec<u8>, AllocError> {
+    if asked.json {
+        let mut out = Writer::new(Vec::new(alloc));
+        put_seq_refusal_json(alloc, &mut out, which, file, refusal)?;
+        return json_text(out);
+    }
+    let mut out = String::new(alloc);
+    put_seq_refusal(alloc, &mut out, which, file, refusal)?;
+    Ok(out.into_bytes())
+}
+
+/// The output for an answer.
+fn answer_text(
+    alloc: Global,
+    which: Datapath,
+    asked: CheckQuestion,
+    file: &ExplainedFile<'_>,
+    answer: &SeqAnswer,
+) -> Result<Said, AllocError>
+    ensures { IfOk result (λ said. (said.status ≡ 0) ↔ (is_yes answer.now ≡ true)) }
+{
+    match answer {
+        SeqAnswer::Yes => Ok(Said {
+            status: 0,
+            text: yes_text(alloc, which, asked, file)?,
+        }),
+        SeqAnswer::No(refusal) => Ok(Said {
+            status: 1,
+            text: no_text(alloc, which, asked, file, refusal)?,
+        }),
+    }
+}
+
+/// Explains the verdict on a design for SEQ or SEQ+.
+pub fn explain_sequential(
+    alloc: Global,
+    which: Datapath,
+    asked: CheckQuestion,
+    ordered: &Ordered,
+    file: &ExplainedFile<'_>,
+) -> Result<Said, CheckFault>
+    requires { IsOrderedOver (rows_of which) ordered.now }
+{
+    let answer = answer_sequential(alloc, which, asked.variant, ordered)?;
+    match answer_text(alloc, which, asked, file, &answer) {
+        Ok(said) => Ok(said),
+        Err(_) => Err(CheckFault::Memory),
+    }
+}

@@ -1,4 +1,0 @@
-pub mod Explained
-pub mod Faults
-pub mod Running
-pub mod Stops

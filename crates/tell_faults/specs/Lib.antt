@@ -1,0 +1,3 @@
+pub mod Designs
+pub mod Faults
+pub mod Stops

@@ -1,0 +1,25 @@
+//! The stops at object texts: every fault of one.
+ghost use Rattle.y86_base.specs.Image.{IsSize};
+
+use crate::faulty::report_stop;
+use crate::stop::Stop;
+use fault_report::object_report;
+use std::alloc::Global;
+use yo_object::{YoFault, YoWhy};
+
+/// The stop at a text that is no object text: every fault of it.
+pub fn text_stop(alloc: Global, file: &str, text: &[u8], size: u64) -> Stop
+    requires { IsSize size }
+{
+    report_stop(alloc, file, object_report(alloc, text, size))
+}
+
+/// The stop at an object text with a fault.
+pub fn object_stop(alloc: Global, file: &str, text: &[u8], size: u64, fault: &YoFault) -> Stop
+    requires { IsSize size }
+{
+    if fault.why == YoWhy::Memory {
+        return Stop::Memory;
+    }
+    text_stop(alloc, file, text, size)
+}

@@ -1,0 +1,42 @@
+//! `program`: whether the theorem on accepted HCL files covers a program.
+ghost use Rattle.y86_base.specs.Image.{IsSize};
+
+use fault_report::is_source;
+use program_report::{put_watched, watch_object, watched_status};
+use std::alloc::Global;
+use tell_faults::{OBJECT_LIMIT, Stop, object_stop, text_stop, unread};
+use tell_words::ProgramQuestion;
+use wb_io::{Files, Sink};
+
+/// Reports whether the theorem covers the program of an object file.
+pub fn report_program<F: Files, O: Sink>(
+    alloc: Global,
+    file: &str,
+    asked: ProgramQuestion,
+    files: &mut F,
+    out: &mut O,
+) -> Result<u8, Stop>
+    requires { IsSize asked.size }
+{
+    let text = match files.read(alloc, file, OBJECT_LIMIT) {
+        Ok(text) => text,
+        Err(error) => return Err(unread(error)),
+    };
+    if is_source(text.as_slice()) {
+        return Err(text_stop(alloc, file, text.as_slice(), asked.size));
+    }
+    let watched = match watch_object(
+        alloc,
+        asked.variant,
+        text.as_slice(),
+        asked.size,
+        asked.limit,
+    ) {
+        Ok(watched) => watched,
+        Err(fault) => return Err(object_stop(alloc, file, text.as_slice(), asked.size, &fault)),
+    };
+    match put_watched(watched, out) {
+        Ok(()) => Ok(watched_status(watched)),
+        Err(_) => Err(Stop::Write),
+    }
+}
