@@ -186,7 +186,11 @@ ASSEMBLY = [
     ("a parenthesis that isn't closed", "mrmovq 8(%rax, %rbx", "1:14: An address has one base register and no index: `D(rB)`."),
     (".align 0", ".align 0", "1:8: `.align` takes a number that is 1 at least."),
     ("a label without its colon in front of a statement", "loop halt", "1:1: `loop` is no mnemonic of Y86-64. If it is a label, its `:` is missing."),
-    ("a word that is no label", "loop 5", "1:1: `loop` is no mnemonic of Y86-64."),
+    ("a label without its colon in front of a directive", "array .quad 5", "1:1: `array` is no mnemonic of Y86-64. If it is a label, its `:` is missing."),
+    ("a label without its colon in front of a comment", "loop # again", "1:1: `loop` is no mnemonic of Y86-64. If it is a label, its `:` is missing."),
+    ("a word in front of a number", "loop 5", "1:1: `loop` is no mnemonic of Y86-64."),
+    ("a word in front of a register", "loop %rax", "1:1: `loop` is no mnemonic of Y86-64."),
+    ("a word in front of two registers", "adq %rax, %rbx", "1:1: `adq` is no mnemonic of Y86-64."),
     ("a negative number for a register", "addq -8, %rax",
         "1:6: `addq` works on two registers. Load the number by `irmovq`, or a word of memory by `mrmovq`, first."),
 ]

@@ -23,6 +23,9 @@ HASTY = changed(
 )
 # Nothing waits at all behind a ret.
 NO_WAIT_FOR_RET = changed(HASTY, F_stall="0", D_bubble="E_icode == IJXX && !e_Cnd")
+# An invalid instruction has status AOK.
+AOK_FOR_INS = "[ imem_error : SADR; f_icode == IHALT : SHLT; 1 : SAOK; ]"
+NO_INS = changed(design("std"), f_stat=AOK_FOR_INS)
 # A program of one halt.
 HALT = "0x000: 00 |\n"
 
@@ -97,6 +100,14 @@ DIFFERENCES = [
     # halt as any other instruction
     ("halt goes on", changed(design("std"), f_stat="[ imem_error : SADR; !instr_valid : SINS; 1 : SAOK; ]"), "O2", "0x000: 1000 |\n",
         1, 6, "0x001", "halt", ["status"], {"status": "AOK"}, {"status": "HLT"}),
+    # a byte that begins no instruction is one, whatever status it gets
+    ("an invalid instruction", NO_INS, "O2", "0x000: f0 |\n", 0, 5, "0x000", "an invalid instruction", ["status"],
+        {"icode": 15, "ifun": 0, "status": "AOK"}, {"icode": 15, "ifun": 0, "status": "INS"}),
+    ("iaddq without --full", NO_INS, "O2", "0x000: c0f00300000000000000 |\n", 0, 5, "0x000", "an invalid instruction", ["status"],
+        {"icode": 15, "ifun": 0, "status": "AOK"}, {"icode": 15, "ifun": 0, "status": "INS"}),
+    # and the status doesn't make one of a nop
+    ("a nop with status INS", changed(design("std"), f_stat="[ f_icode == INOP : SINS; @ ]"), "O2", "0x000: 1000 |\n", 0, 5, "0x000", "nop", ["status"],
+        {"icode": 1, "ifun": 0, "status": "INS"}, {"icode": 1, "ifun": 0, "status": "AOK"}),
     # in --full the sixth row of the table
     ("iaddq", changed(design("with_iaddq"), aluA="[ E_icode == IIADDQ : 0; @ ]"), "O12", " irmovq $2, %rax\n iaddq $-5, %rax\n halt\n",
         1, 6, "0x00a", "iaddq $-5, %rax", ["valE", "flags"],
@@ -117,6 +128,7 @@ def test_first_instruction_that_differs(row, told):
 
 
 RETURNING = " irmovq stack, %rsp\n nop\n nop\n nop\n ret\n nop\n halt\nend: halt\n.pos 0x40\nstack: .quad end\n"
+INVALID_BELOW_RET = RETURNING.replace("ret\n nop", "ret\n .byte 0xf0")
 ADDING = " irmovq $3, %rax\n addq %rax, %rax\n halt\n"
 SUBTRACTS = changed(design("std"), f_ifun="[ f_icode == IOPQ : ALUSUB; @ ]")
 # A file, a program, the instructions, the cycle, what is wrong, and of the instruction that retires and of that in whose place it does: address, text,
@@ -124,7 +136,11 @@ SUBTRACTS = changed(design("std"), f_ifun="[ f_icode == IOPQ : ALUSUB; @ ]")
 OTHERS = [
     # behind a ret that nothing waits for, the instruction below it is done: fetched in the cycle after it
     ("an instruction below a ret", NO_WAIT_FOR_RET, RETURNING, 5, 10, ["instruction", "status"], ("0x00e", "nop", 1, 0), ("0x010", "halt", 0, 0)),
+    ("an invalid instruction below a ret", changed(NO_WAIT_FOR_RET, f_stat=AOK_FOR_INS), INVALID_BELOW_RET, 5, 10,
+        ["instruction", "status"], ("0x00e", "an invalid instruction", 15, 0), ("0x010", "halt", 0, 0)),
     # an ifun that isn't that of the bytes
+    ("an invalid instruction with another ifun", changed(design("std"), f_ifun="[ imem_icode == 15 : 3; @ ]"), "0x000: f0 |\n", 0, 5,
+        ["instruction"], ("0x000", "icode 15, ifun 3", 15, 3), ("0x000", "an invalid instruction", 15, 0)),
     ("another ifun", SUBTRACTS, ADDING, 1, 6, ["instruction", "valE", "flags"], ("0x00a", "icode 6, ifun 1", 6, 1), ("0x00a", "addq %rax, %rax", 6, 0)),
 ]
 
@@ -301,7 +317,6 @@ def test_no_verdict(row, told):
         {"outcome": "same", "verdict": verdict, "obligation": None, "covered": False})
 
 
-NO_INS = changed(STD, f_stat="[ imem_error : SADR; f_icode == IHALT : SHLT; 1 : SAOK; ]")
 NO_ADR = changed(STD, f_stat="[ !instr_valid : SINS; f_icode == IHALT : SHLT; 1 : SAOK; ]")
 FAR_JUMP = "0x000: 700020000000000000 |\n"
 APART = "No instruction of the program fetches a byte that one of the three instructions before it stored.\n"
@@ -381,6 +396,18 @@ In cycle 5 the pipeline retires instruction 1 of the program, and does it wrong:
                    it does                     it should do
     right  flags   Z=1 S=0 O=0                 Z=1 S=0 O=0
     WRONG  status  AOK                         INS
+"""),
+    ("another instruction, an invalid one", changed(NO_WAIT_FOR_RET, f_stat=AOK_FOR_INS), INVALID_BELOW_RET, ("--unchecked",), """\
+In cycle 10 the pipeline retires another instruction in place of instruction 6 of the program:
+
+    it retires        0x00e: an invalid instruction
+    it should retire  0x010: halt
+
+                   it does                     it should do
+    right  flags   Z=1 S=0 O=0                 Z=1 S=0 O=0
+    WRONG  status  AOK                         HLT
+
+The 5 instructions before are right.
 """),
     ("a fetch outside", NO_ADR, FAR_JUMP, ("--unchecked",), """\
 In cycle 6 the pipeline retires instruction 2 of the program, and does it wrong:

@@ -1,12 +1,11 @@
 """What `y86-tell check pipe` says from the smallest counterexample on: the situation, the signals, the next cycle, the repairs and the other obligations.
-Also its settings of a file that it accepts.
+Also its settings of a file that it accepts. And that no page has a line of more than 96 columns.
 
 The expected texts are worked out by hand: which situation is the smallest one from docs/OBLIGATIONS.md, what is in it from the designs and their changes.
 """
-import re
-
 from helpers.cases import cases, same
-from helpers.designs import changed, design, example
+from helpers.designs import changed, design, example, replaced
+from helpers.rows import broken, datapath
 from test_tell import LOAD_USE
 
 LOADS_A = "E_icode in { IMRMOVQ, IPOPQ } && E_dstM == d_srcA"
@@ -290,7 +289,8 @@ A repair: each of these changes alone makes O10, O11 and O23 to O27 hold in this
 All other obligations hold.
 """),
     ("M stops the machine", "std", {"M_bubble": "0"}, {"E": "nop, on the wrong path", "M": "rmmovq, its address is bad"}, """
-The fetch: f_pc is F_predPC. The youngest instruction of the program stops the machine, so the fetch is on the wrong path.
+The fetch: f_pc is F_predPC. The youngest instruction of the program stops the machine, so the
+           fetch is on the wrong path.
 The next cycle:
 
     F loads.
@@ -309,46 +309,55 @@ All other obligations hold.
 ]
 
 
-def joined(text):
-    """A text with all that is said of a signal on one line. (How its first line is broken isn't shown here.)"""
-    return re.sub(r"\n {11}(?=\S)", " ", text)
-
-
 @cases(MOTION)
 def test_motion(row, y86_tell):
     _, base, bodies, held, wanted = row
-    same(joined(situation(y86_tell, base, bodies)), joined("".join(stages(held)) + wanted + LAST))
+    same(situation(y86_tell, base, bodies), "".join(stages(held)) + wanted + LAST)
 
 
 # ---- the other obligations that are false somewhere
 
 STATUS = {"Stat": "W_stat"}
-# What is changed in std.hcl, what is said of the other obligations, and which to mend first. With the changed `Stat` O22 is false first.
+# A design, what is changed in it, what is said of the other obligations, and which to mend first. With the changed `Stat` O22 is false first.
 OTHERS = [
-    ("signals and a bubble", {"m_stat": "M_stat"}, """\
+    ("signals and a bubble", "std", {"m_stat": "M_stat"}, """\
     O20: m_stat is 1 (SAOK). It has to be 3 (SADR).
     O25: it is about stalls and bubbles; inverting M_bubble would repair it.
 """, "O20"),
-    ("two signals of an obligation", {"need_regids": "@ && f_icode != IPUSHQ", "mem_read": "@ || M_icode == ICALL", "mem_write": "@ && M_icode != ICALL"}, """\
+    ("two signals of an obligation", "std", {"need_regids": "@ && f_icode != IPUSHQ", "mem_read": "@ || M_icode == ICALL", "mem_write": "@ && M_icode != ICALL"}, """\
     O19: mem_read is 1. It has to be 0. mem_write is 0. It has to be 1.
 """, "O3"),
-    ("two signals, each alone", {**STATUS, "F_bubble": "D_icode == IRET"}, """\
+    ("two signals, each alone", "std", {**STATUS, "F_bubble": "D_icode == IRET"}, """\
     O23: it is about stalls and bubbles; inverting F_stall or F_bubble would repair it.
 """, "O22"),
-    ("two pairs of signals", {**STATUS, "F_bubble": f"D_icode == IRET && {LOAD_USE}", "D_bubble": f"{MISPREDICTED} || {RETURNS}"}, """\
+    ("two pairs of signals", "std", {**STATUS, "F_bubble": f"D_icode == IRET && {LOAD_USE}", "D_bubble": f"{MISPREDICTED} || {RETURNS}"}, """\
     O23: it is about stalls and bubbles; inverting F_stall and D_bubble or F_bubble and D_bubble
          would repair it.
 """, "O22"),
-    ("no signal", {**STATUS, "f_pc": "[ W_icode == IRET : W_valM; 1 : F_predPC; ]"}, """\
-    O25: it is about stalls and bubbles.
+    # the mispredicted jump in M: its right target is M_valA
+    ("a choice of f_pc", "std", {**STATUS, "f_pc": "[ W_icode == IRET : W_valM; 1 : F_predPC; ]"}, """\
+    O25: f_pc is F_predPC. Letting it be M_valA would repair it.
+""", "O22"),
+    ("two choices of f_pc", "std", {**STATUS, "f_pc": "[ E_icode == IJXX && e_Cnd : M_valA; @ ]"}, """\
+    O25: f_pc is M_valA. Letting it be F_predPC or E_valC would repair it.
+""", "O22"),
+    ("two signals, or a choice of f_pc", "early_jumps", {**STATUS, "f_pc": "[ E_icode == IJXX && E_ifun == 1 : F_predPC; @ ]"}, """\
+    O25: it is about stalls and bubbles; inverting D_stall or D_bubble, or letting f_pc be
+         E_valA, would repair it.
+""", "O22"),
+    # the ret in W: D has to load what is fetched at W_valM
+    ("a signal with a choice of f_pc", "std",
+        {**STATUS, "f_pc": "[ M_icode == IJXX && !M_Cnd : M_valA; 1 : F_predPC; ]", "D_bubble": "W_icode == IRET || (@)"}, """\
+    O25: it is about stalls and bubbles; inverting D_bubble and letting f_pc be W_valM would
+         repair it.
 """, "O22"),
 ]
 
 
 @cases(OTHERS)
 def test_others(row, y86_tell):
-    _, bodies, wanted, first = row
-    after = situation(y86_tell, "std", bodies).partition("\nAlso false somewhere, each in a situation of its own:\n\n")[2]
+    _, base, bodies, wanted, first = row
+    after = situation(y86_tell, base, bodies).partition("\nAlso false somewhere, each in a situation of its own:\n\n")[2]
     mend = f"Mend {first} first: its wrong signals don't depend on the wrong signals of another obligation.\n"
     same(after, f"{wanted}\nAll other obligations hold.\n{mend}{LAST}")
 
@@ -387,8 +396,8 @@ def test_settings(row, y86_tell):
     wanted = f"""\
 yes: all 27 obligations hold.
 
-This pipeline does what the instructions mean, for every program in which no instruction overwrites
-one of the next three. Its settings:
+This pipeline does what the instructions mean, for every program in which no instruction
+overwrites one of the next three. Its settings:
 
     Forward jumps that it predicts as taken: {forward}.
     Backward jumps that it predicts as taken: {backward}.
@@ -408,3 +417,13 @@ def test_no_jump_is_predicted_as_taken(y86_tell):
     status, out, _ = y86_tell("check", "pipe", "d.hcl", files={"d.hcl": changed(design("not_taken"), **bodies)}).text()
     assert status == 0
     assert "    Forward jumps that it predicts as taken: none.\n    Backward jumps that it predicts as taken: none.\n" in out
+
+
+# ---- the width of the pages
+
+@cases(broken())
+def test_width(row, y86_tell):
+    """Each line of a refusal has at most 96 columns: of each obligation what it demands is there."""
+    label, base, definitions, _ = row
+    status, out, _ = y86_tell("check", datapath(label, base), "d.hcl", files={"d.hcl": replaced(design(base), definitions)}).text()
+    same((status, [line for line in out.splitlines() if len(line) > 96]), (1, []))

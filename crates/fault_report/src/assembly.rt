@@ -115,12 +115,9 @@ fn word_at(text: &[u8]) -> &[u8] {
     }
 }
 
-/// Whether a text is a mnemonic, a directive or a register.
-fn is_fixed(variant: Variant, text: &[u8]) -> bool {
-    if meaning_of(mnemonics(variant), text).is_some() {
-        return true;
-    }
-    meaning_of(directives(), text).is_some() || meaning_of(register_names(), text).is_some()
+/// Whether a text is a mnemonic or a directive.
+fn is_operation(variant: Variant, text: &[u8]) -> bool {
+    meaning_of(mnemonics(variant), text).is_some() || meaning_of(directives(), text).is_some()
 }
 
 /// Whether a text differs from another in nothing but capital letters, of which it has at least one.
@@ -177,7 +174,7 @@ fn is_naked_register(text: &[u8]) -> bool {
 /// Whether a word is followed by a statement or the end of the line.
 fn is_label_like(variant: Variant, rest: &[u8], word: &[u8]) -> bool {
     let behind = after_blanks(part(rest, word.len(), rest.len()));
-    Reader::new(behind).ends() || is_fixed(variant, word_at(behind))
+    Reader::new(behind).ends() || is_operation(variant, word_at(behind))
 }
 
 /// Whether a text begins with a digit or, unless only digits count, with a letter, `_` or `-`.

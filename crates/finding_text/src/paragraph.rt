@@ -15,10 +15,19 @@ fn put_plain(out: &mut String, text: &str) -> Result<(), AllocError> {
     Ok(())
 }
 
-/// Writes the words of a text in lines: `first` begins the first line, and `rest` each other one. A line end follows.
+/// The columns of a text's last line.
+fn last_column(text: &str) -> usize {
+    match text.rsplit_once('\n') {
+        Some((_, line)) => line.len(),
+        None => text.len(),
+    }
+}
+
+/// Writes the words of a text in lines: `first` continues the line that `out` ends with, and `rest` begins each line
+/// after it. A line end follows.
 pub fn put_lines(out: &mut String, first: &str, rest: &str, text: &str) -> Result<(), AllocError> {
     out.push_str(first)?;
-    let mut column = first.len();
+    let mut column = last_column(out.as_str());
     let mut is_first = true;
     for word in text.split(' ') {
         if word.is_empty() {

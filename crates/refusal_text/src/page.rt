@@ -32,6 +32,26 @@ fn put_move(out: &mut String, stage: &str, what: &str, holds: &str) -> Result<()
     out.push_str(".\n")
 }
 
+/// Writes what `f_pc` picks.
+fn put_pc(out: &mut String, scene: &Scene<'_>) -> Result<(), AllocError> {
+    out.push_str("f_pc is ")?;
+    put_leaf(out, &scene.values, name::F_PC, scene.leaf(name::F_PC))?;
+    out.push_str(". ")
+}
+
+/// Writes where the fetch goes.
+fn put_fetch(
+    alloc: Global,
+    out: &mut String,
+    scene: &Scene<'_>,
+    m: &Motion,
+) -> Result<(), AllocError> {
+    let mut said = String::new(alloc);
+    put_pc(&mut said, scene)?;
+    said.push_str(fetch_sentence(m))?;
+    put_paragraph(alloc, out, "The fetch: ", "           ", said.as_str())
+}
+
 /// Writes how the registers move, and what is wrong with that.
 fn put_motion(
     alloc: Global,
@@ -40,11 +60,9 @@ fn put_motion(
     rule: u32,
     m: &Motion,
 ) -> Result<(), AllocError> {
-    out.push_str("\nThe fetch: f_pc is ")?;
-    put_leaf(out, &scene.values, name::F_PC, scene.leaf(name::F_PC))?;
-    out.push_str(". ")?;
-    out.push_str(fetch_sentence(m))?;
-    out.push_str("\nThe next cycle:\n\n    F ")?;
+    out.push_str("\n")?;
+    put_fetch(alloc, out, scene, m)?;
+    out.push_str("The next cycle:\n\n    F ")?;
     out.push_str(move_name(m.controls.f))?;
     out.push_str(".\n")?;
     put_move(
@@ -165,26 +183,76 @@ fn put_repairs(out: &mut String, scene: &Scene<'_>) -> Result<(), AllocError> {
     }
 }
 
-/// Writes which inverted signals would repair the motion, if any would: one alone, or two together.
+/// Writes which inverted signals would repair the motion: one alone, or two together.
+fn put_inverted(out: &mut String, scene: &Scene<'_>, repairs: &Repairs) -> Result<(), AllocError> {
+    let single = repairs.invert.items();
+    if !single.is_empty() {
+        out.push_str("inverting ")?;
+        put_choices(out, scene, single)?;
+    }
+    let mut before = "inverting ";
+    for pair in repairs.invert_both.items() {
+        put_change(out, scene, before, pair.first)?;
+        put_change(out, scene, " and ", pair.second)?;
+        before = " or ";
+    }
+    Ok(())
+}
+
+/// Writes which choices of `f_pc` would repair the motion: alone, or with an inverted signal.
+fn put_chosen(out: &mut String, scene: &Scene<'_>, repairs: &Repairs) -> Result<(), AllocError> {
+    let single = repairs.f_pc.items();
+    if !single.is_empty() {
+        out.push_str("letting f_pc be ")?;
+        put_choices(out, scene, single)?;
+    }
+    let mut before = "inverting ";
+    for pair in repairs.invert_and_f_pc.items() {
+        put_change(out, scene, before, pair.first)?;
+        put_change(out, scene, " and letting f_pc be ", pair.second)?;
+        before = " or inverting ";
+    }
+    Ok(())
+}
+
+/// Writes what would repair the motion, if anything would.
 fn put_other_repairs(
+    alloc: Global,
     out: &mut String,
     scene: &Scene<'_>,
     repairs: &Repairs,
 ) -> Result<(), AllocError> {
-    let single = repairs.invert.items();
-    let both = repairs.invert_both.items();
-    if single.is_empty() && both.is_empty() {
-        return Ok(());
+    let mut inverted = String::new(alloc);
+    put_inverted(&mut inverted, scene, repairs)?;
+    let mut chosen = String::new(alloc);
+    put_chosen(&mut chosen, scene, repairs)?;
+    let one = inverted.as_str();
+    let other = chosen.as_str();
+    match (one.is_empty(), other.is_empty()) {
+        (true, true) => Ok(()),
+        (false, false) => write!(out, "; {one}, or {other}, would repair it"),
+        _ => write!(out, "; {one}{other} would repair it"),
     }
-    out.push_str("; inverting ")?;
-    put_choices(out, scene, single)?;
-    let mut is_first = true;
-    for pair in both {
-        put_change(out, scene, if is_first { "" } else { " or " }, pair.first)?;
-        put_change(out, scene, " and ", pair.second)?;
-        is_first = false;
+}
+
+/// Writes what would repair the motion at the counterexample of another obligation. If only a choice of `f_pc` does so
+/// alone, `f_pc` is wrong.
+fn put_other_motion(
+    alloc: Global,
+    out: &mut String,
+    scene: &Scene<'_>,
+    repairs: &Repairs,
+) -> Result<(), AllocError> {
+    let sources = repairs.f_pc.items();
+    if repairs.invert.items().is_empty() && !sources.is_empty() {
+        put_pc(out, scene)?;
+        out.push_str("Letting it be ")?;
+        put_choices(out, scene, sources)?;
+        return out.push_str(" would repair it.");
     }
-    out.push_str(" would repair it")
+    out.push_str("it is about stalls and bubbles")?;
+    put_other_repairs(alloc, out, scene, repairs)?;
+    out.push_str(".")
 }
 
 /// Writes, on one line, what is wrong at the counterexample of another obligation.
@@ -199,9 +267,7 @@ fn put_other(
     put_label(out, other.rule)?;
     out.push_str(": ")?;
     if !put_wrong_findings(out, &scene.values, other.diagnosis.findings.items())? {
-        out.push_str("it is about stalls and bubbles")?;
-        put_other_repairs(out, scene, &other.diagnosis.repairs)?;
-        out.push_str(".")?;
+        put_other_motion(alloc, out, scene, &other.diagnosis.repairs)?;
     }
     put_paragraph(alloc, page, "    ", "         ", said.as_str())
 }

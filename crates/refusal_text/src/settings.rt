@@ -3,7 +3,7 @@ ghost use Rattle.std.specs.Prelude.{◌≡◌, ◌++◌, ◌∷◌, OnOk};
 ghost use Rattle.json.specs.Token.{key};
 ghost use Rattle.refusal_text.specs.Settings as spec;
 
-use finding_text::{Out, put_truth};
+use finding_text::{Out, put_lines, put_truth};
 use pipe_motion::Settings;
 use std::alloc::AllocError;
 
@@ -34,9 +34,14 @@ fn put_choice(out: &mut String, is_on: bool, on: &str, off: &str) -> Result<(), 
 
 /// Writes the output for an accepted file: its settings, a line each.
 pub fn put_settings(out: &mut String, s: &Settings) -> Result<(), AllocError> {
-    out.push_str(
-        "yes: all 27 obligations hold.\n\nThis pipeline does what the instructions mean, for every program in which no instruction overwrites\none of the next three. Its settings:\n\n    Forward jumps that it predicts as taken: ",
+    out.push_str("yes: all 27 obligations hold.\n\n")?;
+    put_lines(
+        out,
+        "",
+        "",
+        "This pipeline does what the instructions mean, for every program in which no instruction overwrites one of the next three. Its settings:",
     )?;
+    out.push_str("\n    Forward jumps that it predicts as taken: ")?;
     put_jumps(out, &s.pt)?;
     out.push_str(".\n    Backward jumps that it predicts as taken: ")?;
     put_jumps(out, &s.pb)?;

@@ -8,14 +8,18 @@ use yis_run::flag;
 
 const NO_REGISTER: u64 = 15;
 
+/// The icode of an invalid instruction.
+const INVALID_ICODE: u64 = 15;
+
 /// Whether two records are those of one instruction.
 pub fn same_instruction(one: &Rec, other: &Rec) -> bool {
     one.pc == other.pc && one.icode == other.icode && one.ifun == other.ifun
 }
 
-/// Writes an instruction: its text, from the bytes in memory, if they are its own; otherwise its icode and ifun.
+/// Writes an instruction: its text, from the bytes in memory, if they are its own; otherwise its icode and ifun. It
+/// is invalid by its icode, whatever its status is.
 pub fn put_text(out: &mut Vec<u8>, memory: &Image, r: &Rec) -> Result<(), Memory> {
-    if r.stat == Stat::Ins {
+    if r.icode == INVALID_ICODE && r.ifun == 0 {
         return put(out, b"an invalid instruction");
     }
     let fetched = split(Variant::Full, memory, r.pc);
