@@ -55,6 +55,21 @@ def test_tab_order(row, at):
     same(at.do("[workbench.tab, document.activeElement.id]"), ["steps", "tab-steps"])
 
 
+@cases(SIZES)
+def test_a_note_by_keys(row, at):
+    """The button of a note that is out of view comes into view with the focus, and the numbers stay beside their lines."""
+    at.size(*row[1:])
+    at.write("hcl", at.source("hcl") + "bool W_bubbl = 0;\n")
+    at.do("(() => { const it = one('#hcl textarea'); it.focus(); it.scrollTop = 0; })()")
+    at.key("Tab")
+    inside = """(() => {
+      const it = document.activeElement.getBoundingClientRect(), box = one('#hcl .paper').getBoundingClientRect();
+      const line = one('#hcl .mark.bad').getBoundingClientRect(), number = one('#hcl .gutter .bad').getBoundingClientRect();
+      return [document.activeElement.getAttribute('aria-label'), it.top >= box.top && it.bottom <= box.bottom, Math.round(line.top - number.top)];
+    })()"""
+    same(at.do(inside), ["Hide this note", True, 0])
+
+
 def test_rows_by_keys(at):
     """Up and down go through the instructions of the diagram, in view, and left and right still go through the cycles."""
     at.do("el('grid').focus()")

@@ -204,9 +204,11 @@ def test_witness(at, programs, folder):
     at.choose("hcls", "mistake: E_dstE in place of e_dstE")
     own = "    irmovq $7, %rax\n    halt\n"
     at.write("ys", own)
-    at.click("#find")
+    at.do("el('find').focus()")
+    at.key("Enter")
     at.until("/comes out wrong/.test(el('outcome').textContent)")
     at.settle()
+    same(at.do("document.activeElement.id"), "result")
     said(at, "outcome", "First wrong")
     drawn = at.source("ys")
     assert len(drawn.split("\n")) < 20, "the program wasn't shortened"

@@ -38,6 +38,7 @@ export class Editor {
     this.over.addEventListener("click", (it) => {
       if (it.target.closest("button")) this.hide(it.target.closest(".note"));
     });
+    this.over.addEventListener("focusin", (it) => this.uncover(it.target.closest(".note")));
     this.over.addEventListener("wheel", (it) => (this.area.scrollTop += it.deltaY), { passive: true });
   }
 
@@ -231,6 +232,13 @@ export class Editor {
     const hide = '<button type="button" aria-label="Hide this note" title="Hide this note">×</button>';
     return `<div class="note ${it.kind}${it.isOld ? " old" : ""}" data-note="${number}">`
       + `${caret}<div class="said">${it.html}</div>${hide}</div>`;
+  }
+
+  /** Brings a note into view. */
+  uncover(note) {
+    const from = note.offsetTop - MARGIN, to = note.offsetTop + note.offsetHeight + MARGIN, { area } = this;
+    area.scrollTop = Math.max(Math.min(area.scrollTop, from), to - area.clientHeight);
+    this.scrolled();
   }
 
   hide(note) {

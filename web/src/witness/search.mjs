@@ -89,6 +89,7 @@ async function search(path) {
     if (!it.isHcl()) throw new Stopped();
     button.textContent = text;
   };
+  const hadFocus = document.activeElement === button;
   button.disabled = true;
   try {
     const name = await fromExamples(trial, say);
@@ -101,6 +102,8 @@ async function search(path) {
       loadFound(HEAD + sourceOf(lines), "witness.ys");
     }
     tab("run");
+    // (the button is gone)
+    if (hadFocus) by("result").focus({ preventScroll: true });
     toast(`${name || "A program"} comes out wrong`);
   } catch (stopped) {
     if (!(stopped instanceof Stopped)) throw stopped;
