@@ -242,6 +242,21 @@ def test_the_title_and_the_words_of_a_no(pages, browser):
         "broken.hcl: no, O24 doesn't hold; The instruction in D doesn't go on to E, and D doesn't keep it: it is lost.")
 
 
+# Of a page of a run and one of a no: what its help says, and what it doesn't, since it has no texts.
+HELPS = [("load/use", "next hazard", "On the left"), ("a no", "smallest counterexample", "next hazard")]
+
+
+@cases(HELPS)
+def test_help(row, pages, browser):
+    """And no key fails where there is no run."""
+    name, wanted, other = row
+    browser.open(pages(name).path)
+    for key in ("ArrowRight", "End", "n", "N", "b", " ", "w", "?"):
+        browser.press_key(key, False)
+    text = browser.value("document.getElementById('dialog').innerText")
+    same((wanted in text, other in text, "Ctrl" in text), (True, False, False))
+
+
 # ---- pictures
 
 def drawn(programs, folder, *words):

@@ -4,11 +4,13 @@ import { cycleNow, go, nextHazard, play, toggleBreak } from "./player.mjs";
 import { state } from "./state.mjs";
 import { nextTab } from "./tabs.mjs";
 
-const ROWS = [
+const RUN_ROWS = [
   ["← →", "a cycle back, on"], ["Home End", "first, last cycle"], ["space", "play to the next breakpoint, pause"],
-  ["n N", "next hazard, the one before"],
-  ["b", "breakpoint at the fetched instruction; or click a row, or a line number of the program"],
+  ["n N", "next hazard, the one before"], ["b", "breakpoint at the fetched instruction; or click a row"],
   ["↑ ↓", "in the diagram: an instruction, where Enter sets a breakpoint"],
+];
+const TEXT_ROWS = [
+  ["b", "breakpoint at the fetched instruction; or click a row, or a line number of the program"],
   ["w", "the next tab: this run, by instructions, why no"],
   ["Ctrl Enter", "from a text to the result"], ["Ctrl space", "in a text: the names that fit"],
 ];
@@ -17,11 +19,20 @@ const TEXT = `<p>On the left are a processor’s control logic in HCL and a Y86-
 does <em>this</em> program come out right, and the run cycle by cycle.</p>`;
 const MORE = `<p>The keys work outside of the texts; <kbd>Tab</kbd> leaves a text. Files can be dropped. What you `
   + `write stays in this browser; a copied link has both texts after its <code>#</code>.</p>`;
+const RUN = "<p>One run, a cycle at a time. A number after <code>#cycle=</code> in the address is the cycle.</p>";
+const NO = "<p>The smallest counterexample to an obligation, and what the file says there. This page has no run.</p>";
 
-function help() {
-  const rows = ROWS.map(([keys, does]) => `<tr>`
+/** The keys as a table; a later row of the same keys counts. */
+function keysHTML(list) {
+  const rows = [...new Map(list)].map(([keys, does]) => `<tr>`
     + `<th scope="row">${keys.split(" ").map((it) => `<kbd>${it}</kbd>`).join(" ")}</th><td>${does}</td></tr>`);
-  dialog("The workbench", `${TEXT}<table>${rows.join("")}</table>${MORE}`);
+  return `<table>${rows.join("")}</table>`;
+}
+
+/** The help of the workbench; that of a page of one run, or of one refusal, where there are no texts. */
+function help() {
+  if (by("hcl")) dialog("The workbench", `${TEXT}${keysHTML([...RUN_ROWS, ...TEXT_ROWS])}${MORE}`);
+  else dialog("This page", state.run ? `${RUN}${keysHTML(RUN_ROWS)}` : NO);
 }
 
 const DOES = {
