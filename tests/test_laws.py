@@ -5,7 +5,7 @@ import re
 
 from helpers.cases import same
 from helpers.paths import TOP
-from proving import crates_of
+from proving import crates_to_prove
 from programs import programs_in
 
 LAW = re.compile(r"\blaw_of_\w+")
@@ -44,6 +44,6 @@ def test_pages_name_laws_that_there_are():
 
 
 def test_laws_that_prove_leaves_out():
-    left_out = sorted({crate for crate, _ in laws()} - set(crates_of(TOP, programs_in(TOP))))
+    left_out = sorted({crate for crate, _ in laws()} - set(crates_to_prove(TOP, programs_in(TOP))))
     said = re.search(r"^No program needs (.*?), which have nothing but laws", read(f"{TOP}/docs/PROVED.md"), re.M | re.S)
     same(re.findall(r"`(\w+)`", said[1]), left_out)
