@@ -575,13 +575,13 @@ STOPS = """\
 The program stops in step {}.
 No instruction fetches a byte that one of the three instructions before it stored.
 Under every HCL file that `y86 check pipe` accepts, `y86 psim` therefore reports what `y86 yis` reports,
-in at most five cycles for each step.
+with the same --mem and --full, and with a --limit of at least five cycles for each step.
 """
 MEETS = """\
 The instruction at {0} fetches a byte that the instruction at {1} stored {3} before.
 The store writes the 8 bytes from {2} on. Steps before the fetch: {4}.
 A pipeline may have fetched the old byte, so the theorem about accepted HCL files doesn't cover this program.
-It would if at least three other instructions ran between the two.
+These two would be no reason if at least three other instructions ran between them.
 """
 
 

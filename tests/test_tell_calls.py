@@ -12,7 +12,8 @@ from helpers.designs import changed, design, example
 
 STOPS = (
     "The program stops in step {}.\nNo instruction fetches a byte that one of the three instructions before it stored.\n"
-    "Under every HCL file that `y86 check pipe` accepts, `y86 psim` therefore reports what `y86 yis` reports,\nin at most five cycles for each step.\n"
+    "Under every HCL file that `y86 check pipe` accepts, `y86 psim` therefore reports what `y86 yis` reports,\n"
+    "with the same --mem and --full, and with a --limit of at least five cycles for each step.\n"
 )
 OPEN = (
     "The program hasn't stopped by the end of step {}.\nSo far no instruction has fetched a byte that one of the three instructions before it stored.\n"
@@ -22,7 +23,7 @@ MEETS = (
     "The instruction at {} fetches a byte that the instruction at 0x014 stored {} before.\n"
     "The store writes the 8 bytes from {} on. Steps before the fetch: {}.\n"
     "A pipeline may have fetched the old byte, so the theorem about accepted HCL files doesn't cover this program.\n"
-    "It would if at least three other instructions ran between the two.\n"
+    "These two would be no reason if at least three other instructions ran between them.\n"
 )
 # The third instruction, of 10 bytes as the first two, stores into the constant of the one at `target`.
 PATCH = " irmovq target, %rbx\n irmovq $2, %rcx\n rmmovq %rcx, 2(%rbx)\n{}target: irmovq $1, %rax\n halt\n"

@@ -367,16 +367,16 @@ def test_others(row, y86_tell):
 ALL = "jmp, jle, jl, je, jne, jge, jg"
 # The sentences of the four settings, off and on.
 SENTENCES = {
-    "tv": ("The ALU does nothing for jumps.", "A jump carries its target through the ALU, so that M_valE is its target."),
+    "tv": ("A jump doesn't always carry its target through the ALU.", "A jump carries its target through the ALU, so that M_valE is its target."),
     "lf": (
         "A store or push waits for a word that is still being loaded, like any other instruction.",
-        "A word that is just loaded is forwarded to a store or push after it, without a stall.",
+        "A word that is just loaded may be forwarded to a store or push after it, without a stall.",
     ),
     "je": (
         "A mispredicted jump is repaired while it is in memory: it costs two bubbles.",
-        "A mispredicted jump is repaired while it is in execute: it costs one bubble.",
+        "A mispredicted jump may be repaired while it is in execute: it then costs one bubble.",
     ),
-    "rm": ("A return goes on from write-back: it costs three bubbles.", "A return goes on from memory: it costs two bubbles."),
+    "rm": ("A return goes on from write-back: it costs three bubbles.", "A return may go on from memory: it then costs two bubbles."),
 }
 # A design, its jumps that are predicted as taken, forward and backward, and the settings that are on.
 SETTINGS = [

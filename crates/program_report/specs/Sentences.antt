@@ -10,7 +10,7 @@ use Rattle.y86_base.specs.Numeral.{numeral}
 unfoldable pub stops_text : ℕ → List ℕ
 stops_text steps =
     concat (codes "The program stops in step " ∷ numeral 10 1 steps
-    ∷ codes ".\nNo instruction fetches a byte that one of the three instructions before it stored.\nUnder every HCL file that `y86 check pipe` accepts, `y86 psim` therefore reports what `y86 yis` reports,\nin at most five cycles for each step.\n"
+    ∷ codes ".\nNo instruction fetches a byte that one of the three instructions before it stored.\nUnder every HCL file that `y86 check pipe` accepts, `y86 psim` therefore reports what `y86 yis` reports,\nwith the same --mem and --full, and with a --limit of at least five cycles for each step.\n"
     ∷ [])
 
 -- it hasn't stopped within the limit
@@ -28,7 +28,7 @@ unfoldable pub meets_text : NearFetch → List ℕ
 meets_text f =
     concat (codes "The instruction at 0x" ∷ numeral 16 3 f.pc ∷ codes " fetches a byte that the instruction at 0x" ∷ numeral 16 3 f.storer ∷ codes " stored " ∷ distance_word f.distance
     ∷ codes " before.\nThe store writes the 8 bytes from 0x" ∷ numeral 16 3 f.store ∷ codes " on. Steps before the fetch: " ∷ numeral 10 1 f.steps
-    ∷ codes ".\nA pipeline may have fetched the old byte, so the theorem about accepted HCL files doesn't cover this program.\nIt would if at least three other instructions ran between the two.\n"
+    ∷ codes ".\nA pipeline may have fetched the old byte, so the theorem about accepted HCL files doesn't cover this program.\nThese two would be no reason if at least three other instructions ran between them.\n"
     ∷ [])
 
 unfoldable pub watched_text : Watched → List ℕ

@@ -21,7 +21,7 @@ fn put_stops<O: Sink>(steps: u64, out: &mut O) -> Result<(), Failed>
         &[
             b"The program stops in step ",
             steps.as_bytes(),
-            b".\nNo instruction fetches a byte that one of the three instructions before it stored.\nUnder every HCL file that `y86 check pipe` accepts, `y86 psim` therefore reports what `y86 yis` reports,\nin at most five cycles for each step.\n",
+            b".\nNo instruction fetches a byte that one of the three instructions before it stored.\nUnder every HCL file that `y86 check pipe` accepts, `y86 psim` therefore reports what `y86 yis` reports,\nwith the same --mem and --full, and with a --limit of at least five cycles for each step.\n",
         ],
     )
 }
@@ -77,7 +77,7 @@ fn put_meets<O: Sink>(found: NearFetch, out: &mut O) -> Result<(), Failed>
             store.as_bytes(),
             b" on. Steps before the fetch: ",
             steps.as_bytes(),
-            b".\nA pipeline may have fetched the old byte, so the theorem about accepted HCL files doesn't cover this program.\nIt would if at least three other instructions ran between the two.\n",
+            b".\nA pipeline may have fetched the old byte, so the theorem about accepted HCL files doesn't cover this program.\nThese two would be no reason if at least three other instructions ran between them.\n",
         ],
     )
 }

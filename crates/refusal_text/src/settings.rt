@@ -50,24 +50,24 @@ pub fn put_settings(out: &mut String, s: &Settings) -> Result<(), AllocError> {
         out,
         s.tv,
         "A jump carries its target through the ALU, so that M_valE is its target.",
-        "The ALU does nothing for jumps.",
+        "A jump doesn't always carry its target through the ALU.",
     )?;
     put_choice(
         out,
         s.lf,
-        "A word that is just loaded is forwarded to a store or push after it, without a stall.",
+        "A word that is just loaded may be forwarded to a store or push after it, without a stall.",
         "A store or push waits for a word that is still being loaded, like any other instruction.",
     )?;
     put_choice(
         out,
         s.je,
-        "A mispredicted jump is repaired while it is in execute: it costs one bubble.",
+        "A mispredicted jump may be repaired while it is in execute: it then costs one bubble.",
         "A mispredicted jump is repaired while it is in memory: it costs two bubbles.",
     )?;
     put_choice(
         out,
         s.rm,
-        "A return goes on from memory: it costs two bubbles.",
+        "A return may go on from memory: it then costs two bubbles.",
         "A return goes on from write-back: it costs three bubbles.",
     )
 }
