@@ -15,7 +15,7 @@ export function settings(line) {
     pt === pb ? `Jumps predicted as taken: ${jumps(pt)}.` : `Jumps predicted as taken: forward ${jumps(pt)}; backward `
       + `${jumps(pb)}.`,
     `A mispredicted jump costs ${je === "1" ? "one bubble" : "two bubbles"}, a return ${rm === "1" ? "two" : "three"}.`,
-    lf === "1" ? "A store doesn’t wait for a word that is just loaded." : "A word that is just loaded is waited for.",
+    lf === "1" ? "A store needn’t wait for a word that is just loaded." : "A word that is just loaded is waited for.",
     ...(tv === "1" ? ["Jumps carry their target through the ALU."] : []),
   ];
 }
