@@ -64,18 +64,20 @@ def test_program(row, assembled, y86_tell):
     same(y86_tell("program", "p.yo", *options, files={"p.yo": assembled(source)}).text(), (status, wanted, ""))
 
 
-# A program, the status of `run` without options, and some of what it says: from cycle 5 on a jump retires in each cycle.
+# A program, the options, the status of `run`, and some of what it says: from cycle 5 on a jump retires in each cycle.
 RUNS = [
-    ("the most cycles", LOOP, 1, {"outcome": "limit", "cycles": 10000, "instructions": 9996}),
-    ("the last word of memory", LOAD.format(8184), 0, {"outcome": "same", "status": "HLT"}),
-    ("a byte behind it", LOAD.format(8185), 0, {"outcome": "same", "status": "ADR"}),
+    ("the most cycles", LOOP, (), 1, {"outcome": "limit", "cycles": 10000, "instructions": 9996}),
+    ("the last word of memory", LOAD.format(8184), (), 0, {"outcome": "same", "status": "HLT"}),
+    ("a byte behind it", LOAD.format(8185), (), 0, {"outcome": "same", "status": "ADR"}),
+    ("the smallest memory", LOAD.format(56), ("--mem", "64"), 0, {"outcome": "same", "status": "HLT"}),
+    ("the largest limit", " halt\n", ("--limit", "100000000"), 0, {"outcome": "same", "status": "HLT"}),
 ]
 
 
 @cases(RUNS)
 def test_run(row, assembled, y86_tell):
-    _, source, status, wanted = row
-    answer = y86_tell("run", "d.hcl", "p.yo", "--json", files={"d.hcl": example("std"), "p.yo": assembled(source)})
+    _, source, options, status, wanted = row
+    answer = y86_tell("run", "d.hcl", "p.yo", "--json", *options, files={"d.hcl": example("std"), "p.yo": assembled(source)})
     said = json.loads(answer.out)
     same((answer.status, {name: said.get(name) for name in wanted}), (status, wanted))
 
