@@ -1,7 +1,19 @@
-//! Lists that contracts see as their elements, so that proofs needn't mention memory.
-ghost use Rattle.std.specs.Prelude.{◌≡◌};
+//! Lists: one more element at the end, and lists that contracts see as their elements, so that proofs needn't mention
+//! memory.
+ghost use Rattle.std.specs.Prelude.{◌≡◌, ◌++◌, ◌∷◌, [], OnOk};
 
+use crate::parts::Memory;
 use std::marker::Model;
+
+/// Adds an element at the end of a list.
+pub fn push<T: Drop>(list: &mut Vec<T>, last: T) -> Result<(), Memory>
+    ensures { OnOk result (list.new.items ≡ list.old.items ++ last ∷ []) }
+{
+    match list.push(last) {
+        Ok(()) => Ok(()),
+        Err(_) => Err(Memory),
+    }
+}
 
 /// A `Vec` that contracts see as the list of its elements. Values are compared by their elements, all the way down:
 /// neither capacity nor allocator counts.

@@ -98,15 +98,22 @@ impl Numeral {
     }
 }
 
+/// Appends a number in decimal, without leading zeros.
+pub fn put_decimal(out: &mut Vec<u8>, n: u64) -> Result<(), Memory>
+    ensures { OnOk result (out.new.items ≡ out.old.items ++ numeral 10 1 n) }
+{
+    put(out, Numeral::decimal(n).as_bytes())
+}
+
 /// Appends a word as a signed decimal number.
 #[tactic(auto, unfolding(crate::specs::Numeral::signed_decimal))]
 pub fn put_signed(out: &mut Vec<u8>, n: u64) -> Result<(), Memory>
     ensures { OnOk result (out.new.items ≡ out.old.items ++ signed_decimal n) }
 {
     if n < 1 << 63 {
-        put(out, Numeral::decimal(n).as_bytes())
+        put_decimal(out, n)
     } else {
         put(out, b"-")?;
-        put(out, Numeral::decimal(n.wrapping_neg()).as_bytes())
+        put_decimal(out, n.wrapping_neg())
     }
 }

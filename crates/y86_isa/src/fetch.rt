@@ -78,6 +78,7 @@ fn word_by_bytes(memory: &Image, at: u64) -> u64
 fn word_from(memory: &Image, at: u64) -> u64
     ensures { result ≡ blocks.word_from memory.now at }
 {
+    // (brings what holds of every image: its size is bounded)
     let _size = memory.size();
     match memory.word(at) {
         Some(word) => word,

@@ -113,6 +113,7 @@ fn put_word<S: Sink>(first: &Image, memory: &Image, n: u64, out: &mut S) -> Resu
     ensures puts { AppendsText (S.taken out.old) (S.taken out.new) result (text.memory_line first.now memory.now n) }
     ensures counts { CountsFaults (S.faults out.old) (S.faults out.new) result }
 {
+    // (brings what holds of every image: its size is bounded)
     let _size = first.size();
     let address = 8 * n;
     let old = first.word(address).unwrap_or(0);
