@@ -14,8 +14,8 @@ use Rattle.ctl_atoms.specs.declared.leaf.Atom.{Atom}
 use Rattle.ctl_atoms.specs.Atoms.{AreAtoms}
 use Rattle.ctl_atoms.proofs.Solved.{leaves_exist}
 use Rattle.ctl_atoms.specs.declared.leaf.Leaf.{Leaf}
-use Rattle.ctl_formula.specs.Laws.{HasControls}
-use Rattle.ctl_formula.proofs.Solved.{controls_exist}
+use Rattle.ctl_equations.specs.Laws.{HasControls}
+use Rattle.ctl_equations.proofs.Solved.{controls_exist}
 use Rattle.pipe_fields.specs.Layout.{bit_count, fields_of, number_of, pattern_of}
 use Rattle.pipe_fields.proofs.Told.{has_pattern, in_range}
 use Rattle.pipe_motion.specs.declared.settings.Settings.{Settings}

@@ -16,8 +16,8 @@ use Rattle.ctl_atoms.specs.declared.leaf.Leaf.{Leaf}
 use Rattle.ctl_atoms.specs.declared.leaf.Leaf.TheVariants.{Number}
 use Rattle.ctl_atoms.specs.Leaves.{Assignment}
 use Rattle.ctl_atoms.proofs.Solved.{known_row, unknown_inside}
-use Rattle.ctl_formula.specs.Controls.{AreControls, control_rule, role_leaf, row_leaf}
-use Rattle.ctl_formula.proofs.Rows.{rule_local, rule_past, rule_row}
+use Rattle.ctl_equations.specs.Controls.{AreControls, control_rule, role_leaf, row_leaf}
+use Rattle.ctl_equations.proofs.Rows.{rule_local, rule_past, rule_row}
 use Rattle.control_values.specs.Given.{at, given_leaf}
 
 -- a given row doesn't depend on its term

@@ -12,7 +12,7 @@ use Rattle.ctl_atoms.specs.declared.leaf.Atom.{Atom}
 use Rattle.ctl_atoms.specs.Leaves.{Assignment, atom_eq, leaf_holds, leaf_meaning}
 use Rattle.net_fields.specs.declared.field_specs.FieldSpec.{FieldSpec}
 use Rattle.net_fields.specs.FieldSpecs.{decoded, number_among, total}
-use Rattle.ctl_formula.specs.Controls.{row_leaf}
+use Rattle.ctl_equations.specs.Controls.{row_leaf}
 
 -- an atom's truth, if the first atom has bit number first: the bit of its place in the list, and false if it isn't
 -- listed

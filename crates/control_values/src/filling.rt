@@ -7,8 +7,8 @@ ghost use Rattle.hcl_types.specs.Terms.{value};
 ghost use Rattle.ctl_atoms.specs.declared.leaf.Leaf.TheVariants.{Number};
 ghost use Rattle.ctl_atoms.specs.Leaves.{leaf_meaning};
 ghost use Rattle.ctl_atoms.specs.Rows.{row_term};
-ghost use Rattle.ctl_formula.specs.Controls.{AreControls, control_rule, field_leaf, role_leaf};
-ghost use Rattle.ctl_formula.specs.Controls as spec;
+ghost use Rattle.ctl_equations.specs.Controls.{AreControls, control_rule, field_leaf, role_leaf};
+ghost use Rattle.ctl_equations.specs.Controls as spec;
 ghost use Rattle.control_values.specs.Given.{AreNear, assigned, at, field_at, given_leaf};
 
 use crate::scope::Scope;
@@ -108,7 +108,7 @@ fn told_leaf(s: &Situation<'_>, rows: &[Row], terms: &[Term], id: usize, leaves:
 }
 
 /// The leaf of a row, given the leaves of the names that it needs.
-#[tactic(auto, unfolding(ctl_formula::specs::Controls::control_rule))]
+#[tactic(auto, unfolding(ctl_equations::specs::Controls::control_rule))]
 fn leaf_of_row(s: &Situation<'_>, rows: &[Row], terms: &[Term], id: NameId, leaves: &[Leaf]) -> Leaf
     requires near { s.now.first ≤ 1000 }
     requires places { AreNear s.now.fields.now }

@@ -28,14 +28,14 @@ use Rattle.ctl_atoms.specs.Rows.{row_term, codes, leaf_rule, leaves_by_role, lea
 use Rattle.ctl_atoms.proofs.Plans.{plan_Num, plan_Name, plan_Not, plan_And, plan_Or, plan_Cmp, plan_In, plan_Case}
 use Rattle.ctl_atoms.proofs.Same.{leaf_eq_true, leaf_eq_self}
 use Rattle.ctl_atoms.proofs.Solved.{known_row, needs_defined}
-use Rattle.ctl_formula.specs.declared.controls.Entry.{Entry}
-use Rattle.ctl_formula.specs.declared.controls.Entry.TheVariants.{Absent}
-use Rattle.ctl_formula.specs.declared.controls.Place.{Place}
-use Rattle.ctl_formula.specs.Picks.{entry_word, entry_picks}
-use Rattle.ctl_formula.specs.Translatable.{IsEntryOf, leaves_of}
+use Rattle.ctl_picks.specs.declared.controls.Entry.{Entry}
+use Rattle.ctl_picks.specs.declared.controls.Entry.TheVariants.{Absent}
+use Rattle.ctl_given.specs.declared.places.Place.{Place}
+use Rattle.ctl_picks.specs.Picks.{entry_word, entry_picks, leaves_of}
+use Rattle.ctl_picks.specs.Entries.{IsEntryOf}
 use Rattle.ctl_formula.specs.Encoding.{IsPartialEncoding}
-use Rattle.ctl_formula.specs.Laws.{Apart, AreApart}
-use Rattle.ctl_formula.proofs.Rows.{given_undefined}
+use Rattle.ctl_picks.specs.Laws.{Apart, AreApart}
+use Rattle.ctl_equations.proofs.Rows.{given_undefined}
 
 leaf_swap : (x y : Leaf) → leaf_eq y x ≡ false → leaf_eq x y ≡ false
 leaf_swap x y h = by (leaf_eq x y) refl

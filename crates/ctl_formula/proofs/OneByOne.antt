@@ -28,20 +28,21 @@ use Rattle.ctl_atoms.specs.TermAtoms.{term_atoms}
 use Rattle.ctl_atoms.specs.Rows.{row_term, leaf_rule, leaves_by_role, leaves_of_row, defined_leaves}
 use Rattle.ctl_atoms.proofs.Listed.{listed}
 use Rattle.ctl_atoms.proofs.Solved.{leaves_exist, unknown_inside, known_row, needs_defined}
-use Rattle.ctl_formula.specs.declared.controls.Entry.{Entry}
-use Rattle.ctl_formula.specs.declared.controls.Entry.TheVariants.{Absent, Truth, Picks}
-use Rattle.ctl_formula.specs.declared.controls.Place.{Place}
-use Rattle.ctl_formula.specs.Controls.{AreControls, role_leaf}
-use Rattle.ctl_formula.specs.Picks.{Covers, IsInside, EncodesControls, Within, entry_truth, entry_word, entry_gate, entry_picks, some_pick}
-use Rattle.ctl_formula.specs.Places.{Spells}
-use Rattle.ctl_formula.specs.TakenPicks.{at}
-use Rattle.ctl_formula.specs.Translatable.{EntryEncodes, EntryWithin, IsEntryOf, HasScope, EncodesSoFar, entry_leaves, translatable}
+use Rattle.ctl_picks.specs.declared.controls.Entry.{Entry}
+use Rattle.ctl_picks.specs.declared.controls.Entry.TheVariants.{Absent, Truth, Picks}
+use Rattle.ctl_given.specs.declared.places.Place.{Place}
+use Rattle.ctl_equations.specs.Controls.{AreControls, role_leaf}
+use Rattle.ctl_picks.specs.Picks.{Covers, IsInside, EncodesControls, Within, entry_truth, entry_word, entry_gate, entry_picks, some_pick}
+use Rattle.ctl_given.specs.Places.{Spells}
+use Rattle.ctl_picks.specs.TakenPicks.{at}
+use Rattle.ctl_picks.specs.Entries.{EntryEncodes, EntryWithin, IsEntryOf, entry_leaves}
+use Rattle.ctl_terms.specs.Translatable.{HasScope, EncodesSoFar, translatable}
 use Rattle.ctl_formula.specs.Encoding.{IsInputEncoding, IsPartialEncoding, IsEncoding, is_filled}
-use Rattle.ctl_formula.proofs.Chosen.{chosen}
-use Rattle.ctl_formula.proofs.Opened.{entry_within, entry_shows}
+use Rattle.ctl_picks.proofs.Chosen.{chosen}
+use Rattle.ctl_picks.proofs.Entries.{entry_within, entry_shows}
 use Rattle.ctl_formula.proofs.Readied.{Readied, Stands, readied}
 use Rattle.ctl_formula.proofs.Elements.{push_case, set_case, defined_at, defined_below, each_at}
-use Rattle.ctl_formula.proofs.Rows.{given_undefined, rule_row, defined_leaf}
+use Rattle.ctl_equations.proofs.Rows.{given_undefined, rule_row, defined_leaf}
 
 -- ---- another given row
 

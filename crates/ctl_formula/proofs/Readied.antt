@@ -24,10 +24,12 @@ use Rattle.ctl_atoms.specs.Leaves.{open_atom, is_listed}
 use Rattle.ctl_atoms.specs.TermAtoms as plans
 use Rattle.ctl_atoms.specs.TermAtoms.{TermAtoms, term_atoms, branch_plan, atoms_of_all, member_atoms, branch_atoms, pair_atoms}
 use Rattle.ctl_atoms.proofs.Plans.{plan_Num, plan_Name, plan_Not, plan_And, plan_Or, plan_Cmp, plan_In, plan_Case, plan_branch}
-use Rattle.ctl_formula.specs.declared.controls.Entry.{Entry}
-use Rattle.ctl_formula.specs.Picks.{entry_truth, entry_word}
-use Rattle.ctl_formula.specs.Translatable.{Translatable, translatable, branch_ready, ready_layer, ready_pair, entry_leaves, leaves_listed, truths, members, branches, case_leaves}
-use Rattle.ctl_formula.proofs.Arms.{branch_ready_is}
+use Rattle.ctl_picks.specs.declared.controls.Entry.{Entry}
+use Rattle.ctl_picks.specs.Picks.{entry_truth, entry_word}
+use Rattle.ctl_terms.specs.Translatable.{Translatable, translatable, branch_ready, ready_layer, ready_pair, truths, members, branches, case_leaves}
+use Rattle.ctl_picks.specs.Entries.{entry_leaves}
+use Rattle.ctl_terms.specs.Pairs.{leaves_listed}
+use Rattle.ctl_terms.proofs.Arms.{branch_ready_is}
 
 joins : (a b : Bool) → IsTrue a → IsTrue b → IsTrue (a && b)
 joins true b h k = k

@@ -9,14 +9,14 @@ use Rattle.ctl_atoms.specs.declared.leaf.Leaf.{Leaf}
 use Rattle.ctl_atoms.specs.declared.leaf.Atom.{Atom}
 use Rattle.ctl_atoms.specs.Leaves.{Assignment, AtomsAre}
 use Rattle.ctl_atoms.specs.Rows.{leaf_rule, leaves_by_role}
-use Rattle.ctl_formula.specs.declared.controls.Entry.{Entry}
-use Rattle.ctl_formula.specs.declared.controls.Entry.TheVariants.{Absent}
-use Rattle.ctl_formula.specs.declared.controls.Place.{Place}
-use Rattle.ctl_formula.specs.Controls.{AreControls, role_leaf}
-use Rattle.ctl_formula.specs.Picks.{entry_truth, entry_word}
-use Rattle.ctl_formula.specs.Places.{Spells}
-use Rattle.ctl_formula.specs.TakenPicks.{at}
-use Rattle.ctl_formula.specs.Translatable.{EntryEncodes, EntryWithin, IsEntryOf}
+use Rattle.ctl_picks.specs.declared.controls.Entry.{Entry}
+use Rattle.ctl_picks.specs.declared.controls.Entry.TheVariants.{Absent}
+use Rattle.ctl_given.specs.declared.places.Place.{Place}
+use Rattle.ctl_equations.specs.Controls.{AreControls, role_leaf}
+use Rattle.ctl_picks.specs.Picks.{entry_truth, entry_word}
+use Rattle.ctl_given.specs.Places.{Spells}
+use Rattle.ctl_picks.specs.TakenPicks.{at}
+use Rattle.ctl_picks.specs.Entries.{EntryEncodes, EntryWithin, IsEntryOf}
 
 -- the entries of the first so_many rows before any definition is translated: each of these rows that isn't defined has
 -- its gates

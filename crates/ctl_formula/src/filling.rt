@@ -1,73 +1,32 @@
 //! The gates and picks of all names of a table, along an order.
-ghost use Rattle.std.specs.Prelude.{◌≡◌, ◌≤◌, ◌<◌, ◌-◌, ◌++◌, ◌∷◌, [], true, false, ◌+◌, length, List, Bool, ℕ, IfOk, IfErr, OnOk, IsTrue, slice_get, slice_set, take, Some};
+ghost use Rattle.std.specs.Prelude.{◌≡◌, ◌≤◌, ◌<◌, ◌-◌, ◌++◌, ◌∷◌, [], true, ◌+◌, length, List, Bool, ℕ, IfOk, IfErr, OnOk, IsTrue, slice_get, slice_set, take, Some};
 ghost use Rattle.std.specs.List.{AllByRecursion};
 ghost use Rattle.nets.specs.Nets.{ExtendsNet};
 ghost use Rattle.hcl_types.specs.declared.table.Row.{Row};
 ghost use Rattle.hcl_types.specs.Equations.{IsSolution};
-ghost use Rattle.hcl_types.specs.Kinds.{is_truth};
 ghost use Rattle.hcl_types.specs.Tables.{IsBound, IsOrderOf, IsSound};
 ghost use Rattle.hcl_types.specs.Tables as tables;
-ghost use Rattle.hcl_types.specs.Terms.{names, value};
+ghost use Rattle.hcl_types.specs.Terms.{names};
 ghost use Rattle.ctl_atoms.specs.declared.leaf.Leaf.{Leaf};
 ghost use Rattle.ctl_atoms.specs.declared.leaf.Atom.{Atom};
 ghost use Rattle.ctl_atoms.specs.Atoms.{AreAtoms, IsCtlFault};
-ghost use Rattle.ctl_atoms.specs.Leaves.{Assignment, AtomsAre, leaf_meaning};
-ghost use Rattle.ctl_atoms.specs.Rows.{defined_leaves, leaf_rule, row_term};
-ghost use Rattle.ctl_formula.specs.Controls.{AreControls};
-ghost use Rattle.ctl_formula.specs.Picks.{Covers, IsInside, EncodesControls};
-ghost use Rattle.ctl_formula.specs.Laws.{AreApart};
-ghost use Rattle.ctl_formula.specs.Places.{HavePlaces, Spells};
-ghost use Rattle.ctl_formula.specs.TakenPicks.{at};
-ghost use Rattle.ctl_formula.specs.Translatable.{EntryEncodes, EntryWithin, IsEntryOf, HasScope, EncodesSoFar, translatable};
+ghost use Rattle.ctl_atoms.specs.Leaves.{Assignment, AtomsAre};
+ghost use Rattle.ctl_atoms.specs.Rows.{leaf_rule, row_term};
+ghost use Rattle.ctl_equations.specs.Controls.{AreControls};
+ghost use Rattle.ctl_picks.specs.Picks.{Covers, IsInside, EncodesControls};
+ghost use Rattle.ctl_picks.specs.Laws.{AreApart};
+ghost use Rattle.ctl_given.specs.Places.{HavePlaces, Spells};
+ghost use Rattle.ctl_picks.specs.TakenPicks.{at};
 ghost use Rattle.ctl_formula.specs.Encoding.{IsPartialEncoding, IsInputEncoding, IsEncoding, is_filled};
 
-use crate::controls::{Controls, Entry, Place};
-use crate::given::given_entry;
-use crate::scope::Scope;
 use ctl_atoms::{Atom, CtlFault, atoms, definitions_before};
-use hcl_types::{Class, Design, NameId, Order, Row, Table, Term, is_defined};
+use ctl_given::{Place, given_entry};
+use ctl_picks::{Controls, Entry};
+use ctl_terms::Scope;
+use hcl_types::{Design, NameId, Order, Row, Table, Term, is_defined};
 use nets::NetBuilder;
 use std::alloc::Global;
 use y86_base::{Items, Memory};
-
-impl<'a> Scope<'a> {
-    /// The entry of a name of the class, from the term that defines it.
-    fn defined_entry(
-        &self,
-        alloc: Global,
-        b: &mut NetBuilder,
-        class: Class,
-        t: &Term,
-    ) -> Result<Entry, Memory>
-        requires open { HasScope b.old self.now.entries.now self.now.atoms.now self.now.first }
-        requires truth { is_truth class ≡ true → IsTrue (translatable self.now.entries.now self.now.atoms.now t.now).truth }
-        requires word { is_truth class ≡ false → IsTrue (translatable self.now.entries.now self.now.atoms.now t.now).word }
-        ensures extends { ExtendsNet b.old b.new }
-        ensures within { IfOk result (EntryWithin (length b.new.gates)) }
-        ensures entry { IfOk result (IsEntryOf class (defined_leaves class (translatable self.now.entries.now self.now.atoms.now t.now).leaves)) }
-        ensures is { (w : List Bool) (α : Assignment) (cv : ℕ → Leaf) → EncodesSoFar b.old self.now.entries.now self.now.atoms.now self.now.first w α cv →
-            IfOk result (λ e. EntryEncodes (at b.new w) α e (value (leaf_meaning α) cv t.now)) }
-    {
-        match class {
-            Class::Truth => {
-                let g = self.truth(alloc, b, t)?;
-                Ok(Entry::Truth(g))
-            }
-            Class::Number => {
-                let ps = self.word(alloc, b, t)?;
-                Ok(Entry::Picks(Items::of(ps)))
-            }
-            Class::Code => {
-                let ps = self.word(alloc, b, t)?;
-                Ok(Entry::Picks(Items::of(ps)))
-            }
-            Class::Value => {
-                let ps = self.word(alloc, b, t)?;
-                Ok(Entry::Picks(Items::of(ps)))
-            }
-        }
-    }
-}
 
 /// Adds an entry after the others.
 fn push_entry(es: &mut Vec<Entry>, e: Entry) -> Result<(), Memory>

@@ -5,10 +5,10 @@ use Rattle.nets.specs.Nets.{Gates, ExtendsNet, IsGate, truth}
 use Rattle.ctl_atoms.specs.declared.leaf.Leaf.{Leaf}
 use Rattle.ctl_atoms.specs.declared.leaf.Leaf.TheVariants.{Name}
 use Rattle.ctl_atoms.specs.Leaves.{Assignment, leaf_eq}
-use Rattle.ctl_formula.specs.declared.controls.Pick.{Pick}
-use Rattle.ctl_formula.specs.declared.controls.Entry.{Entry}
-use Rattle.ctl_formula.specs.Picks.{Within, some_pick, IsInside, EncodesControls, gate_of, picks_of, has_picks}
-use Rattle.ctl_formula.proofs.Inside.{some_pick_kept}
+use Rattle.ctl_picks.specs.declared.controls.Pick.{Pick}
+use Rattle.ctl_picks.specs.declared.controls.Entry.{Entry}
+use Rattle.ctl_picks.specs.Picks.{Within, some_pick, IsInside, EncodesControls, gate_of, picks_of, has_picks}
+use Rattle.ctl_picks.proofs.Inside.{some_pick_kept}
 use Rattle.net_fields.specs.Spelling.{spelt}
 use Rattle.net_fields.proofs.Patterns.{spelt_lt}
 use Rattle.ctl_rules.specs.ControlGates.{IsControlGate, leaf_expected}

@@ -4,8 +4,8 @@ use Rattle.nets.specs.Nets.{Gates, truth}
 use Rattle.ctl_atoms.specs.declared.leaf.Leaf.{Leaf}
 use Rattle.ctl_atoms.specs.declared.leaf.Leaf.TheVariants.{Name, Number}
 use Rattle.ctl_atoms.specs.Leaves.{Assignment}
-use Rattle.ctl_formula.specs.declared.controls.Entry.{Entry}
-use Rattle.ctl_formula.specs.Picks.{EncodesControls}
+use Rattle.ctl_picks.specs.declared.controls.Entry.{Entry}
+use Rattle.ctl_picks.specs.Picks.{EncodesControls}
 use Rattle.net_fields.specs.Spelling.{spelt}
 use Rattle.ctl_rules.specs.declared.expected_leaf.ExpectedLeaf.{ExpectedLeaf}
 use Rattle.ctl_rules.specs.declared.expected_leaf.ExpectedLeaf.TheVariants as want

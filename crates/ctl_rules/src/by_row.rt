@@ -5,12 +5,12 @@ ghost use Rattle.y86_isa.specs.Table.{row};
 ghost use Rattle.y86_isa.specs.declared.columns.Row.{Row};
 ghost use Rattle.ctl_atoms.specs.declared.leaf.Leaf.{Leaf};
 ghost use Rattle.ctl_atoms.specs.Leaves.{Assignment};
-ghost use Rattle.ctl_formula.specs.declared.controls.Entry.{Entry};
-ghost use Rattle.ctl_formula.specs.Picks.{IsInside};
+ghost use Rattle.ctl_picks.specs.declared.controls.Entry.{Entry};
+ghost use Rattle.ctl_picks.specs.Picks.{IsInside};
 ghost use Rattle.net_fields.specs.Spelling.{spelt};
 ghost use Rattle.ctl_rules.specs.ControlGates.{IsControlGate};
 
-use ctl_formula::Controls;
+use ctl_picks::Controls;
 use net_fields::{BitRange, here};
 use nets::NetBuilder;
 use y86_base::{Memory, Variant};

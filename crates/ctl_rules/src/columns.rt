@@ -4,7 +4,7 @@ ghost use Rattle.nets.specs.Nets.{ExtendsNet, truth};
 ghost use Rattle.y86_base.specs.Stat.{stat_number};
 ghost use Rattle.y86_isa.specs.Blocks.{alu_function, fetch_status, register_number};
 ghost use Rattle.ctl_atoms.specs.declared.leaf.Leaf.{Leaf};
-ghost use Rattle.ctl_formula.specs.Picks.{IsInside, has_picks};
+ghost use Rattle.ctl_picks.specs.Picks.{IsInside, has_picks};
 ghost use Rattle.y86_base.specs.Words.{set};
 ghost use Rattle.net_fields.specs.Spelling.{spelt};
 ghost use Rattle.ctl_rules.specs.ControlGates.{IsControlGate, expected_register};
@@ -12,7 +12,7 @@ ghost use Rattle.ctl_rules.specs.ColumnDemands as spec;
 
 use crate::expected_leaf::{ExpectedLeaf, picks_leaf, picks_leaf_if, picks_some_leaf};
 use ctl_atoms::Leaf;
-use ctl_formula::Controls;
+use ctl_picks::Controls;
 use hcl_types::NameId;
 use net_fields::{BitRange, spells};
 use nets::NetBuilder;

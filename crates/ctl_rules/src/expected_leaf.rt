@@ -2,13 +2,13 @@
 ghost use Rattle.std.specs.Prelude.{◌≡◌, ◌<◌, ◌≤◌, ◌+◌, ◌==◌, ◌&&◌, ◌||◌, not, true, if◌then◌else◌, length, IfOk, IsTrue};
 ghost use Rattle.nets.specs.Nets.{ExtendsNet, IsGate, truth};
 ghost use Rattle.ctl_atoms.specs.Leaves.{leaf_eq};
-ghost use Rattle.ctl_formula.specs.Picks.{IsInside, Within, has_gate, has_picks, some_pick};
+ghost use Rattle.ctl_picks.specs.Picks.{IsInside, Within, has_gate, has_picks, some_pick};
 ghost use Rattle.net_fields.specs.Spelling.{spelt};
 ghost use Rattle.ctl_rules.specs.ControlGates.{IsControlGate, IsWithin, leaf_expected};
 ghost use Rattle.ctl_rules.specs.ColumnDemands as spec;
 
 use ctl_atoms::{Leaf, same_leaf};
-use ctl_formula::{Controls, Pick};
+use ctl_picks::{Controls, Pick};
 use hcl_types::NameId;
 use net_fields::{BitRange, spells};
 use nets::{NetBuilder, choose};

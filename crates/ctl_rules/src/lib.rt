@@ -2,7 +2,7 @@
 //!
 //! An example: the row of `addq` says that input A of the ALU is valA. So one gate is true if E doesn't hold an `addq`,
 //! or if `aluA` picks `E_valA`.
-#![tactic(auto, using(nets::proofs::Truths::begins_more, ctl_formula::proofs::Inside::inside_more))]
+#![tactic(auto, using(nets::proofs::Truths::begins_more, ctl_picks::proofs::Inside::inside_more))]
 
 mod by_row;
 mod columns;

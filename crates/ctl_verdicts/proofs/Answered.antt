@@ -11,9 +11,9 @@ use Rattle.ctl_atoms.specs.Atoms.{AreAtoms}
 use Rattle.ctl_atoms.specs.Leaves.{Assignment, AtomsAre}
 use Rattle.ctl_atoms.specs.declared.leaf.Atom.{Atom}
 use Rattle.ctl_atoms.specs.declared.leaf.Leaf.{Leaf}
-use Rattle.ctl_formula.specs.Controls.{AreControls}
-use Rattle.ctl_formula.specs.Laws.{HasControls}
-use Rattle.ctl_formula.proofs.Solved.{controls_exist}
+use Rattle.ctl_equations.specs.Controls.{AreControls}
+use Rattle.ctl_equations.specs.Laws.{HasControls}
+use Rattle.ctl_equations.proofs.Solved.{controls_exist}
 use Rattle.net_fields.specs.FieldSpecs.{InRange, number_among, pattern, total}
 use Rattle.net_fields.proofs.Patterns.{decoded_range, pattern_of}
 use Rattle.ctl_rules.specs.declared.rules.Rule.{Rule}

@@ -8,7 +8,7 @@ use Rattle.ctl_atoms.specs.Leaves.{Assignment, AtomsAre}
 use Rattle.ctl_atoms.specs.declared.leaf.Atom.{Atom}
 use Rattle.ctl_atoms.specs.declared.fault.CtlFault.TheVariants as ctl
 use Rattle.ctl_atoms.specs.declared.leaf.Leaf.{Leaf}
-use Rattle.ctl_formula.specs.Controls.{AreControls}
+use Rattle.ctl_equations.specs.Controls.{AreControls}
 use Rattle.net_fields.specs.FieldSpecs.{InRange, decoded, number_among, total}
 use Rattle.net_fields.specs.declared.field_specs.FieldSpec.{FieldSpec}
 use Rattle.ctl_rules.specs.declared.rules.Rule.{Rule}

@@ -6,11 +6,11 @@ use Rattle.dp_signals.specs.Tables.{constant_rows}
 use Rattle.dp_signals.specs.PipeTable.{pipe_rows, pipe_state, pipe_hardware, pipe_defined}
 use Rattle.ctl_atoms.specs.Atoms.{AreAtoms}
 use Rattle.ctl_atoms.specs.declared.leaf.Atom.{Atom}
-use Rattle.ctl_formula.specs.Places.{HavePlaces, Spells}
+use Rattle.ctl_given.specs.Places.{HavePlaces, Spells}
 use Rattle.pipe_fields.specs.Layout.{Fields, bit_count, fields_of, number_of}
 use Rattle.y86_base.specs.declared.parts.Variant.{Variant}
 use Rattle.nets.specs.Nets.{Gates, ExtendsNet}
-use Rattle.ctl_formula.proofs.Inside.{inside_more, tells_more}
+use Rattle.ctl_picks.proofs.Inside.{inside_more, tells_more}
 use Rattle.pipe_motion.specs.declared.settings.Settings.{Settings}
 use Rattle.ctl_rules.specs.declared.rules.Rule.{Rule}
 use Rattle.pipe_obligations.specs.Rules.{obligation, rule_count}
@@ -20,10 +20,10 @@ use Rattle.hazard_rules.specs.Parts.{IsDesignGate, AreRuleGates, AreRules, AreEa
 use Rattle.pipe_gates.specs.GateTruths.{IsTruthGate}
 use Rattle.ctl_atoms.specs.declared.leaf.Leaf.{Leaf}
 use Rattle.ctl_atoms.specs.Leaves.{Assignment, AtomsAre}
-use Rattle.ctl_formula.specs.Controls.{AreControls}
-use Rattle.ctl_formula.specs.declared.controls.Entry.{Entry}
-use Rattle.ctl_formula.specs.declared.controls.Place.{Place}
-use Rattle.ctl_formula.specs.Picks.{Covers, IsInside, EncodesControls}
+use Rattle.ctl_equations.specs.Controls.{AreControls}
+use Rattle.ctl_picks.specs.declared.controls.Entry.{Entry}
+use Rattle.ctl_given.specs.declared.places.Place.{Place}
+use Rattle.ctl_picks.specs.Picks.{Covers, IsInside, EncodesControls}
 use Rattle.hazard_rules.specs.Designs.{places, IsTranslated}
 use Rattle.hazard_rules.specs.Belonging.{BelongTo}
 use Rattle.hazard_rules.specs.declared.parts.Parts.{Parts}

@@ -4,8 +4,8 @@ use Rattle.std.proofs.lemmas.List.{get_or-set_same, get_or-set_other}
 use Rattle.y86_base.specs.declared.parts.Variant.{Variant}
 use Rattle.nets.specs.Nets.{Gates, ExtendsNet}
 use Rattle.ctl_atoms.specs.declared.leaf.Atom.{Atom}
-use Rattle.ctl_formula.specs.declared.controls.Entry.{Entry}
-use Rattle.ctl_formula.specs.Picks.{IsInside}
+use Rattle.ctl_picks.specs.declared.controls.Entry.{Entry}
+use Rattle.ctl_picks.specs.Picks.{IsInside}
 use Rattle.pipe_motion.specs.declared.settings.Settings.{Settings}
 use Rattle.ctl_rules.specs.declared.rules.Rule.{Rule}
 use Rattle.ctl_rules.proofs.Kept.{tells_less}

@@ -7,9 +7,9 @@ use Rattle.ctl_atoms.specs.declared.leaf.Leaf.{Leaf}
 use Rattle.ctl_atoms.specs.declared.leaf.Atom.{Atom}
 use Rattle.ctl_atoms.specs.Leaves.{Assignment, AtomsAre}
 use Rattle.ctl_atoms.specs.Atoms.{AreAtoms}
-use Rattle.ctl_formula.specs.declared.controls.Entry.{Entry}
-use Rattle.ctl_formula.specs.declared.controls.Place.{Place}
-use Rattle.ctl_formula.specs.Picks.{Covers, IsInside, EncodesControls}
+use Rattle.ctl_picks.specs.declared.controls.Entry.{Entry}
+use Rattle.ctl_given.specs.declared.places.Place.{Place}
+use Rattle.ctl_picks.specs.Picks.{Covers, IsInside, EncodesControls}
 use Rattle.net_fields.specs.declared.field_specs.FieldSpec.{FieldSpec}
 use Rattle.pipe_fields.specs.Layout.{bit_count, fields_of, field_specs}
 use Rattle.pipe_obligations.specs.FileSettings.{PipeControls}

@@ -8,7 +8,7 @@ use Rattle.ctl_atoms.specs.declared.leaf.Leaf.{Leaf}
 use Rattle.ctl_atoms.specs.declared.leaf.Atom.{Atom}
 use Rattle.ctl_atoms.specs.Leaves.{Assignment, AtomsAre}
 use Rattle.ctl_atoms.specs.Atoms.{AreAtoms}
-use Rattle.ctl_formula.specs.declared.controls.Entry.{Entry}
+use Rattle.ctl_picks.specs.declared.controls.Entry.{Entry}
 use Rattle.pipe_fields.specs.Layout.{bit_count, fields_of}
 use Rattle.pipe_motion.specs.declared.settings.Settings.{Settings}
 use Rattle.ctl_rules.specs.declared.rules.Rule.{Rule}

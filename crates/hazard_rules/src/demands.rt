@@ -1,7 +1,7 @@
 //! What each of the 27 obligations demands, by its number.
 ghost use Rattle.std.specs.Prelude.{◌≤◌, IfOk, length};
 ghost use Rattle.nets.specs.Nets.{ExtendsNet};
-ghost use Rattle.ctl_formula.specs.Picks.{Covers, IsInside};
+ghost use Rattle.ctl_picks.specs.Picks.{Covers, IsInside};
 ghost use Rattle.dp_signals.specs.PipeTable.{pipe_rows};
 ghost use Rattle.pipe_fields.specs.Layout.{bit_count, fields_of};
 ghost use Rattle.pipe_motion.specs.Gates.{HasFlow, flow_at};
@@ -9,7 +9,7 @@ ghost use Rattle.ctl_rules.specs.ControlGates.{IsControlGate};
 ghost use Rattle.pipe_obligations.specs.Obligations.{register_controls_of};
 ghost use Rattle.pipe_obligations.specs.Rules.{demand, rule_count};
 
-use ctl_formula::Controls;
+use ctl_picks::Controls;
 use nets::NetBuilder;
 use pipe_motion::{FlowGates, Settings};
 use pipe_motion_gates::{

@@ -1,7 +1,7 @@
 //! The gates that decide the settings pt, pb and tv of a file.
 ghost use Rattle.std.specs.Prelude.{◌<◌, ◌≤◌, ◌+◌, length, true, false, IfOk};
 ghost use Rattle.nets.specs.Nets.{ExtendsNet, IsGate};
-ghost use Rattle.ctl_formula.specs.Picks.{Covers, IsInside};
+ghost use Rattle.ctl_picks.specs.Picks.{Covers, IsInside};
 ghost use Rattle.dp_signals.specs.PipeTable.{pipe_rows};
 ghost use Rattle.hazard_rules.specs.Parts.{ArePredictionGates};
 ghost use Rattle.pipe_gates.specs.GateTruths.{IsTruthGate};
@@ -13,7 +13,7 @@ ghost use Rattle.pipe_obligations.specs.FileSettings.{alu_passes_target};
 ghost use Rattle.pipe_stage_gates.specs.Signals.{IsReady};
 
 use ctl_atoms::{Atom, Leaf};
-use ctl_formula::Controls;
+use ctl_picks::Controls;
 use ctl_rules::{ExpectedLeaf, picks_leaf};
 use dp_signals::pipe_row as signal;
 use net_fields::spells;
@@ -26,7 +26,7 @@ use y86_base::{Memory, Variant};
 
 /// For each of the seven ifuns: if a jump with this ifun that goes back, or (without `back`) doesn't, is fetched, it is
 /// predicted as taken: f_predPC is f_valC. `fits` is the gate of the valuations that are allowed.
-#[tactic(auto, using(nets::proofs::Truths::begins_more, ctl_formula::proofs::Inside::inside_more, pipe_gates::proofs::Known::known_f_predPC))]
+#[tactic(auto, using(nets::proofs::Truths::begins_more, ctl_picks::proofs::Inside::inside_more, pipe_gates::proofs::Known::known_f_predPC))]
 pub(crate) fn predictions(
     b: &mut NetBuilder,
     ctl: &Controls,
@@ -80,7 +80,7 @@ pub(crate) struct EarlyGates {
 }
 
 /// The gates that decide pt, pb and tv.
-#[tactic(auto, using(pipe_stage_gates::proofs::Ready::ready_by, ctl_formula::proofs::Inside::inside_more))]
+#[tactic(auto, using(pipe_stage_gates::proofs::Ready::ready_by, ctl_picks::proofs::Inside::inside_more))]
 pub(crate) fn early_formulas(
     b: &mut NetBuilder,
     ctl: &Controls,

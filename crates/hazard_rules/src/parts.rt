@@ -12,7 +12,7 @@ use crate::design::translated;
 use crate::early_gates::early_formulas;
 use crate::rules::rules_told;
 use ctl_atoms::{Atom, CtlFault};
-use ctl_formula::Controls;
+use ctl_picks::Controls;
 use ctl_rules::Rules;
 use hcl_types::{Design, Order};
 use nets::{Net, NetBuilder};

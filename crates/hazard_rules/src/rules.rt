@@ -1,7 +1,7 @@
 //! The 27 obligations as gates.
 ghost use Rattle.std.specs.Prelude.{◌≡◌, ◌≤◌, ◌+◌, false, true, if◌then◌else◌, length, IfOk};
 ghost use Rattle.nets.specs.Nets.{ExtendsNet};
-ghost use Rattle.ctl_formula.specs.Picks.{Covers, IsInside};
+ghost use Rattle.ctl_picks.specs.Picks.{Covers, IsInside};
 ghost use Rattle.dp_signals.specs.PipeTable.{pipe_rows};
 ghost use Rattle.pipe_fields.specs.Layout.{bit_count, fields_of};
 ghost use Rattle.pipe_motion.specs.Gates.{IsFlow};
@@ -14,7 +14,7 @@ ghost use Rattle.pipe_obligations.specs.StageFlows.{flow_of};
 
 use crate::demands::demand_gate;
 use ctl_atoms::Atom;
-use ctl_formula::Controls;
+use ctl_picks::Controls;
 use ctl_rules::Rule;
 use nets::{NetBuilder, implies};
 use pipe_gates::flow_gates;

@@ -6,7 +6,7 @@ use Rattle.hcl_types.specs.declared.term.Term.{Term}
 use Rattle.ctl_atoms.specs.declared.leaf.Leaf.{Leaf}
 use Rattle.ctl_atoms.specs.declared.leaf.Atom.{Atom}
 use Rattle.ctl_atoms.specs.Leaves.{Assignment}
-use Rattle.ctl_formula.specs.Controls.{AreControls}
+use Rattle.ctl_equations.specs.Controls.{AreControls}
 use Rattle.control_values.specs.Given.{field_at}
 use Rattle.dp_signals.specs.PipeTable.{pipe_rows}
 use Rattle.net_fields.specs.FieldSpecs.{number_among}

@@ -4,8 +4,8 @@ use Rattle.nets.specs.Nets.{Gates, ExtendsNet, IsGate, truth}
 use Rattle.ctl_atoms.specs.declared.leaf.Leaf.{Leaf}
 use Rattle.ctl_atoms.specs.declared.leaf.Atom.{Atom}
 use Rattle.ctl_atoms.specs.Leaves.{Assignment, leaf_eq}
-use Rattle.ctl_formula.specs.declared.controls.Entry.{Entry}
-use Rattle.ctl_formula.specs.Picks.{IsInside}
+use Rattle.ctl_picks.specs.declared.controls.Entry.{Entry}
+use Rattle.ctl_picks.specs.Picks.{IsInside}
 use Rattle.ctl_rules.specs.ControlGates.{IsControlGate}
 use Rattle.ctl_rules.proofs.Kept.{tells_less}
 use Rattle.pipe_gates.specs.GateTruths.{IsAtomGate}

@@ -1,7 +1,7 @@
 -- Which signals of PIPE are truths and which are words.
 use Rattle.std.proofs.Common.{IsTrue, List}
-use Rattle.ctl_formula.specs.declared.controls.Entry.{Entry}
-use Rattle.ctl_formula.specs.Picks.{Covers, has_gate, has_picks}
+use Rattle.ctl_picks.specs.declared.controls.Entry.{Entry}
+use Rattle.ctl_picks.specs.Picks.{Covers, has_gate, has_picks}
 use Rattle.dp_signals.specs.Tables.{constant_rows}
 use Rattle.dp_signals.specs.PipeTable.{pipe_rows, pipe_state, pipe_hardware, pipe_defined}
 use Rattle.dp_signals.specs.PipeNames as signal

@@ -3,14 +3,14 @@ ghost use Rattle.std.specs.Prelude.{◌≡◌, Bool, IfOk, IsTrue, List, length,
 ghost use Rattle.nets.specs.Nets.{ExtendsNet, Gates};
 ghost use Rattle.ctl_atoms.specs.declared.leaf.Leaf.{Leaf};
 ghost use Rattle.ctl_atoms.specs.Leaves.{Assignment, leaf_holds};
-ghost use Rattle.ctl_formula.specs.Picks.{Covers, IsInside, EncodesControls, has_gate};
+ghost use Rattle.ctl_picks.specs.Picks.{Covers, IsInside, EncodesControls, has_gate};
 ghost use Rattle.dp_signals.specs.PipeTable.{pipe_rows};
 ghost use Rattle.pipe_motion.specs.Gates.{HasRegisterControl, HasRegisterControls, HasFlow, register_control_at, register_controls_at, flow_at};
 ghost use Rattle.pipe_motion.specs.Flow.{leaves};
 ghost use Rattle.ctl_rules.specs.ControlGates.{IsControlGate};
 ghost use Rattle.pipe_obligations.specs.Obligations as spec;
 
-use ctl_formula::Controls;
+use ctl_picks::Controls;
 use dp_signals::pipe_row as signal;
 use hcl_types::NameId;
 use nets::NetBuilder;

@@ -1,10 +1,10 @@
 //! Obligation 25: whether the fetch is that of the next instruction, and the next cycle's flow.
-#![tactic(auto, using(nets::proofs::Truths::begins_more, ctl_formula::proofs::Inside::inside_more, pipe_motion::proofs::Kept::flow_stays, pipe_gates::proofs::Known::known_f_pc, pipe_gates::proofs::Known::known_f_stat, pipe_gates::proofs::Known::known_f_icode, pipe_gates::proofs::Known::known_f_ifun))]
+#![tactic(auto, using(nets::proofs::Truths::begins_more, ctl_picks::proofs::Inside::inside_more, pipe_motion::proofs::Kept::flow_stays, pipe_gates::proofs::Known::known_f_pc, pipe_gates::proofs::Known::known_f_stat, pipe_gates::proofs::Known::known_f_icode, pipe_gates::proofs::Known::known_f_ifun))]
 
 ghost use Rattle.std.specs.Prelude.{◌<◌, ◌≤◌, ◌&&◌, ◌||◌, false, get_or, if◌then◌else◌, IfOk, IsTrue, length};
 ghost use Rattle.nets.specs.Nets.{ExtendsNet, truth};
 ghost use Rattle.ctl_atoms.specs.declared.leaf.Leaf.TheVariants.{Name};
-ghost use Rattle.ctl_formula.specs.Picks.{Covers, IsInside, has_picks};
+ghost use Rattle.ctl_picks.specs.Picks.{Covers, IsInside, has_picks};
 ghost use Rattle.y86_base.specs.Words.{set};
 ghost use Rattle.dp_signals.specs.PipeNames as names;
 ghost use Rattle.dp_signals.specs.PipeTable.{pipe_rows};
@@ -20,7 +20,7 @@ ghost use Rattle.pipe_obligations.specs.Obligations as spec;
 ghost use Rattle.pipe_obligations.specs.StageFlows as stages;
 
 use ctl_atoms::Leaf;
-use ctl_formula::Controls;
+use ctl_picks::Controls;
 use ctl_rules::{ExpectedLeaf, picks_leaf, picks_leaf_if};
 use dp_signals::pipe_row as signal;
 use hcl_types::NameId;

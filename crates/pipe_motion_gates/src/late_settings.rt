@@ -2,7 +2,7 @@
 ghost use Rattle.std.specs.Prelude.{◌≡◌, ◌<◌, ◌≤◌, ◌+◌, ◌&&◌, if◌then◌else◌, IfOk, length, not};
 ghost use Rattle.nets.specs.Nets.{ExtendsNet, truth};
 ghost use Rattle.ctl_atoms.specs.declared.leaf.Leaf.TheVariants.{Name};
-ghost use Rattle.ctl_formula.specs.Picks.{Covers, IsInside};
+ghost use Rattle.ctl_picks.specs.Picks.{Covers, IsInside};
 ghost use Rattle.y86_base.specs.Words.{set};
 ghost use Rattle.dp_signals.specs.PipeNames as names;
 ghost use Rattle.dp_signals.specs.PipeTable.{pipe_rows};
@@ -19,7 +19,7 @@ use crate::fetch::right_after_e;
 use crate::late::{no_early_jump, no_early_ret, no_late_load};
 use crate::premises::premise_gate;
 use ctl_atoms::{Atom, Leaf};
-use ctl_formula::Controls;
+use ctl_picks::Controls;
 use ctl_rules::{ExpectedLeaf, picks_leaf};
 use dp_signals::pipe_row as signal;
 use nets::NetBuilder;
@@ -29,7 +29,7 @@ use pipe_motion::{FlowGates, Settings};
 use y86_base::{Memory, Variant};
 
 /// False exactly if a good store leaves D while E loads its source, and `plain` holds.
-#[tactic(auto, using(pipe_gates::proofs::Known::known_d_srcA, pipe_motion::proofs::Kept::flow_stays, ctl_formula::proofs::Inside::inside_more))]
+#[tactic(auto, using(pipe_gates::proofs::Known::known_d_srcA, pipe_motion::proofs::Kept::flow_stays, ctl_picks::proofs::Inside::inside_more))]
 fn no_load_passed(
     b: &mut NetBuilder,
     ctl: &Controls,
@@ -52,7 +52,7 @@ fn no_load_passed(
 }
 
 /// False exactly if E holds a missed jump, and f_pc is where it goes, and `plain` holds.
-#[tactic(auto, using(pipe_gates::proofs::Known::known_f_pc, pipe_motion::proofs::Kept::flow_stays, ctl_formula::proofs::Inside::inside_more))]
+#[tactic(auto, using(pipe_gates::proofs::Known::known_f_pc, pipe_motion::proofs::Kept::flow_stays, ctl_picks::proofs::Inside::inside_more))]
 fn no_jump_early(
     b: &mut NetBuilder,
     ctl: &Controls,
@@ -75,7 +75,7 @@ fn no_jump_early(
 }
 
 /// False exactly if M holds a ret that doesn't stop, and f_pc is where it goes, and `plain` holds.
-#[tactic(auto, using(pipe_gates::proofs::Known::known_f_pc, pipe_motion::proofs::Kept::flow_stays, ctl_formula::proofs::Inside::inside_more))]
+#[tactic(auto, using(pipe_gates::proofs::Known::known_f_pc, pipe_motion::proofs::Kept::flow_stays, ctl_picks::proofs::Inside::inside_more))]
 fn no_ret_early(
     b: &mut NetBuilder,
     ctl: &Controls,
@@ -136,7 +136,7 @@ pub struct Late {
 
 /// The gates that decide lf, je and rm. Each is false at the valuations that show its setting. The given settings allow
 /// every early fetch and late word.
-#[tactic(auto, using(pipe_motion::proofs::Kept::flow_stays, ctl_formula::proofs::Inside::inside_more, nets::proofs::Truths::begins_more))]
+#[tactic(auto, using(pipe_motion::proofs::Kept::flow_stays, ctl_picks::proofs::Inside::inside_more, nets::proofs::Truths::begins_more))]
 pub fn late_gates(
     b: &mut NetBuilder,
     ctl: &Controls,

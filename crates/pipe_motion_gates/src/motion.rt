@@ -1,14 +1,14 @@
 //! Obligations 23, 24, 26 and 27: how the stall and bubble signals move the flow of the stages.
 ghost use Rattle.std.specs.Prelude.{IfOk, length};
 ghost use Rattle.nets.specs.Nets.{ExtendsNet};
-ghost use Rattle.ctl_formula.specs.Picks.{Covers, IsInside};
+ghost use Rattle.ctl_picks.specs.Picks.{Covers, IsInside};
 ghost use Rattle.dp_signals.specs.PipeTable.{pipe_rows};
 ghost use Rattle.pipe_motion.specs.Gates.{HasFlow, flow_at};
 ghost use Rattle.pipe_motion.specs.Flow as motion;
 ghost use Rattle.ctl_rules.specs.ControlGates.{IsControlGate};
 ghost use Rattle.pipe_obligations.specs.Obligations.{register_controls_of};
 
-use ctl_formula::Controls;
+use ctl_picks::Controls;
 use nets::NetBuilder;
 use pipe_gates::register_controls_of;
 use pipe_motion::FlowGates;

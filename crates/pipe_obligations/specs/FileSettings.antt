@@ -10,7 +10,7 @@ use Rattle.ctl_atoms.specs.declared.leaf.Leaf.{Leaf}
 use Rattle.ctl_atoms.specs.declared.leaf.Leaf.TheVariants.{Name}
 use Rattle.ctl_atoms.specs.declared.leaf.Atom.{Atom}
 use Rattle.ctl_atoms.specs.Leaves.{Assignment, AtomsAre}
-use Rattle.ctl_formula.specs.Controls.{AreControls}
+use Rattle.ctl_equations.specs.Controls.{AreControls}
 use Rattle.y86_base.specs.Words.{set}
 use Rattle.ctl_rules.specs.ColumnDemands.{picks_leaf, is_number}
 use Rattle.pipe_fields.specs.Layout.{Fields, InRange, bit_count, fields_of, number_of}

@@ -14,7 +14,7 @@ use Rattle.dp_signals.specs.PipeTable.{pipe_rows}
 use Rattle.ctl_atoms.specs.declared.leaf.Atom.{Atom}
 use Rattle.ctl_atoms.specs.Atoms.{AreAtoms}
 use Rattle.ctl_atoms.proofs.Solved.{leaves_exist, atoms_one}
-use Rattle.ctl_formula.proofs.Solved.{controls_exist}
+use Rattle.ctl_equations.proofs.Solved.{controls_exist}
 use Rattle.hazard_rules.specs.Parts.{AreRules}
 use Rattle.pipe_fields.specs.Layout.{bit_count}
 use Rattle.pipe_motion.specs.declared.settings.Settings.{Settings}

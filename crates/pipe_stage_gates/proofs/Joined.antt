@@ -4,9 +4,9 @@ use Rattle.nets.specs.Nets.{Gates, ExtendsNet, IsGate, agree, truth}
 use Rattle.ctl_atoms.specs.declared.leaf.Leaf.{Leaf}
 use Rattle.ctl_atoms.specs.declared.leaf.Leaf.TheVariants.{Number}
 use Rattle.ctl_atoms.specs.Leaves.{Assignment, leaf_holds}
-use Rattle.ctl_formula.specs.declared.controls.Entry.{Entry}
-use Rattle.ctl_formula.specs.Picks.{IsInside, gate_of, has_gate}
-use Rattle.ctl_formula.proofs.Inside.{inside_more}
+use Rattle.ctl_picks.specs.declared.controls.Entry.{Entry}
+use Rattle.ctl_picks.specs.Picks.{IsInside, gate_of, has_gate}
+use Rattle.ctl_picks.proofs.Inside.{inside_more}
 use Rattle.y86_base.specs.Words.{set}
 use Rattle.pipe_stage_gates.specs.Signals.{IsReady}
 use Rattle.pipe_fields.specs.Layout.{Fields}

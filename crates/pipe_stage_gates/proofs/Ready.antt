@@ -1,7 +1,7 @@
 -- In a net with PIPE's fields and control values of all its signals, the rules of the stages are ready.
 use Rattle.std.proofs.Common.{◌≡◌, ℕ, ◌≤◌, true, List, slice_get, refl, ◌∙◌}
-use Rattle.ctl_formula.specs.declared.controls.Entry.{Entry}
-use Rattle.ctl_formula.specs.Picks.{Covers, has_gate, has_picks}
+use Rattle.ctl_picks.specs.declared.controls.Entry.{Entry}
+use Rattle.ctl_picks.specs.Picks.{Covers, has_gate, has_picks}
 use Rattle.dp_signals.specs.PipeNames as signal
 use Rattle.dp_signals.specs.PipeTable.{pipe_state, pipe_hardware, pipe_defined, pipe_rows}
 use Rattle.dp_signals.specs.Tables.{constant_rows}

@@ -6,8 +6,8 @@ use Rattle.y86_isa.specs.declared.columns.Row.{Row}
 use Rattle.y86_isa.specs.Blocks.{fetch_status, register_number}
 use Rattle.ctl_atoms.specs.declared.leaf.Leaf.{Leaf}
 use Rattle.ctl_atoms.specs.Leaves.{Assignment}
-use Rattle.ctl_formula.specs.declared.controls.Entry.{Entry}
-use Rattle.ctl_formula.specs.Picks.{has_gate, has_picks}
+use Rattle.ctl_picks.specs.declared.controls.Entry.{Entry}
+use Rattle.ctl_picks.specs.Picks.{has_gate, has_picks}
 use Rattle.dp_signals.specs.PipeNames as signal
 use Rattle.y86_base.specs.Words.{set}
 use Rattle.pipe_fields.specs.Layout.{Fields, bit_count}

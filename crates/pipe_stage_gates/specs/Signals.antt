@@ -2,8 +2,8 @@
 -- have control values; and what the row of an icode demands of some of these signals.
 use Rattle.std.specs.Prelude.{ℕ, ◌≤◌, ◌||◌, not, IsTrue, List, Bool}
 use Rattle.ctl_atoms.specs.declared.leaf.Leaf.{Leaf}
-use Rattle.ctl_formula.specs.declared.controls.Entry.{Entry}
-use Rattle.ctl_formula.specs.Picks.{has_gate, has_picks}
+use Rattle.ctl_picks.specs.declared.controls.Entry.{Entry}
+use Rattle.ctl_picks.specs.Picks.{has_gate, has_picks}
 use Rattle.dp_signals.specs.PipeNames as signal
 use Rattle.pipe_fields.specs.Layout.{Fields, bit_count}
 use Rattle.ctl_rules.specs.ColumnDemands.{picks_some_leaf, is_number, operand_leaf_a, operand_leaf_b, address_leaf}

@@ -1,11 +1,11 @@
 //! The obligations on the execute stage: 12 to 17, and the jump's target. `good` is the gate for "E holds a good
 //! instruction".
-#![tactic(auto, using(nets::proofs::Truths::begins_more, ctl_formula::proofs::Inside::inside_more, crate::proofs::Joined::ready_more), unfolding(pipe_fields::specs::Layout::fields_of))]
+#![tactic(auto, using(nets::proofs::Truths::begins_more, ctl_picks::proofs::Inside::inside_more, crate::proofs::Joined::ready_more), unfolding(pipe_fields::specs::Layout::fields_of))]
 
 ghost use Rattle.std.specs.Prelude.{◌≡◌, ◌<◌, ◌≤◌, ◌+◌, ◌==◌, ◌&&◌, ◌||◌, not, if◌then◌else◌, length, IfOk, IsTrue};
 ghost use Rattle.nets.specs.Nets.{ExtendsNet, IsGate, truth};
 ghost use Rattle.ctl_atoms.specs.declared.leaf.Leaf.TheVariants.{Name};
-ghost use Rattle.ctl_formula.specs.Picks.{IsInside, has_gate, has_picks};
+ghost use Rattle.ctl_picks.specs.Picks.{IsInside, has_gate, has_picks};
 ghost use Rattle.dp_signals.specs.PipeNames as names;
 ghost use Rattle.y86_base.specs.Words.{set};
 ghost use Rattle.pipe_stage_gates.specs.Signals.{IsReady, demand_of_row};
@@ -18,7 +18,7 @@ ghost use Rattle.y86_isa.specs.RowTests.{select_a_is_val_a, select_a_is_val_p, h
 ghost use Rattle.y86_isa.specs.Table.{row};
 
 use crate::row_rules::RowRule;
-use ctl_formula::{Controls, Leaf};
+use ctl_picks::{Controls, Leaf};
 use ctl_rules::{ExpectedLeaf, by_icode, picks_leaf, picks_leaf_if};
 use dp_signals::pipe_row as signal;
 use hcl_types::NameId;

@@ -1,9 +1,9 @@
 //! The obligations on fetch and decode, 1 to 9, which don't depend on the kinds of what the stages hold.
-#![tactic(auto, using(nets::proofs::Truths::begins_more, ctl_formula::proofs::Inside::inside_more), unfolding(pipe_fields::specs::Layout::fields_of))]
+#![tactic(auto, using(nets::proofs::Truths::begins_more, ctl_picks::proofs::Inside::inside_more), unfolding(pipe_fields::specs::Layout::fields_of))]
 
 ghost use Rattle.std.specs.Prelude.{◌<◌, ◌≤◌, ◌&&◌, ◌||◌, not, IfOk};
 ghost use Rattle.nets.specs.Nets.{ExtendsNet, IsGate};
-ghost use Rattle.ctl_formula.specs.Picks.{IsInside};
+ghost use Rattle.ctl_picks.specs.Picks.{IsInside};
 ghost use Rattle.dp_signals.specs.PipeNames as names;
 ghost use Rattle.y86_base.specs.Words.{set};
 ghost use Rattle.pipe_stage_gates.specs.Fronts.{IsFrontReady, demand_in_front};
@@ -16,7 +16,7 @@ ghost use Rattle.y86_isa.specs.Table.{dash_row, row};
 ghost use Rattle.y86_isa.specs.declared.columns.NextPcColumn.TheVariants as way;
 ghost use Rattle.pipe_stage_gates.specs.declared.front.FrontRule.TheVariants as kind;
 
-use ctl_formula::{Controls, Leaf};
+use ctl_picks::{Controls, Leaf};
 use ctl_rules::{
     ExpectedLeaf, RowGates, by_icode, is_truth, picks_leaf, picks_leaf_if, picks_some_leaf,
     register_is, status_is,

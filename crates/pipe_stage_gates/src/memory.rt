@@ -1,11 +1,11 @@
 //! The obligations on the memory and write-back stages, 18 to 22. `good` is the gate for "the stage holds a good
 //! instruction".
-#![tactic(auto, using(nets::proofs::Truths::begins_more, ctl_formula::proofs::Inside::inside_more, crate::proofs::Joined::ready_more), unfolding(pipe_fields::specs::Layout::fields_of))]
+#![tactic(auto, using(nets::proofs::Truths::begins_more, ctl_picks::proofs::Inside::inside_more, crate::proofs::Joined::ready_more), unfolding(pipe_fields::specs::Layout::fields_of))]
 
 ghost use Rattle.std.specs.Prelude.{◌<◌, ◌&&◌, ◌||◌, not, if◌then◌else◌, length, IfOk};
 ghost use Rattle.nets.specs.Nets.{ExtendsNet, truth};
 ghost use Rattle.ctl_atoms.specs.declared.leaf.Leaf.TheVariants.{Name};
-ghost use Rattle.ctl_formula.specs.Picks.{IsInside};
+ghost use Rattle.ctl_picks.specs.Picks.{IsInside};
 ghost use Rattle.dp_signals.specs.PipeNames as names;
 ghost use Rattle.y86_base.specs.Words.{set};
 ghost use Rattle.pipe_stage_gates.specs.Signals.{IsReady};
@@ -17,7 +17,7 @@ ghost use Rattle.y86_isa.specs.Table.{row};
 
 use crate::execute::truth_where;
 use crate::row_rules::RowRule;
-use ctl_formula::{Controls, Leaf};
+use ctl_picks::{Controls, Leaf};
 use ctl_rules::{ExpectedLeaf, by_icode, picks_leaf, picks_leaf_if};
 use dp_signals::pipe_row as signal;
 use net_fields::spells;

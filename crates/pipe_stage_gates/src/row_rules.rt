@@ -1,7 +1,7 @@
 //! What the row of an icode demands of one signal, as a gate.
 ghost use Rattle.std.specs.Prelude.{◌||◌, not, IfOk};
 ghost use Rattle.nets.specs.Nets.{ExtendsNet};
-ghost use Rattle.ctl_formula.specs.Picks.{IsInside};
+ghost use Rattle.ctl_picks.specs.Picks.{IsInside};
 ghost use Rattle.dp_signals.specs.PipeNames as names;
 ghost use Rattle.pipe_stage_gates.specs.Signals.{IsReady, demand_of_row};
 ghost use Rattle.pipe_fields.specs.Layout.{fields_of};
@@ -10,7 +10,7 @@ ghost use Rattle.ctl_rules.specs.ColumnDemands as words;
 ghost use Rattle.y86_isa.specs.Blocks.{alu_function};
 ghost use Rattle.y86_isa.specs.RowTests.{has_operand_a};
 
-use ctl_formula::Controls;
+use ctl_picks::Controls;
 use ctl_rules::{
     RowGates, address_leaf, function_is, operand_leaf_a, operand_leaf_b, picks_some_leaf,
 };

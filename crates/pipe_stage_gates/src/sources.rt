@@ -1,11 +1,11 @@
 //! The right value of a source: that of the youngest older instruction that writes its register (CS:APP 3e, section 4.5.5,
 //! avoiding data hazards by forwarding). Obligations 10 and 11.
-#![tactic(auto, using(nets::proofs::Truths::begins_more, ctl_formula::proofs::Inside::inside_more, pipe_motion::proofs::Kept::flow_stays, pipe_gates::proofs::Known::known_d_valA, pipe_gates::proofs::Known::known_d_srcA, pipe_gates::proofs::Known::known_d_valB, pipe_gates::proofs::Known::known_d_srcB), unfolding(pipe_fields::specs::Layout::fields_of))]
+#![tactic(auto, using(nets::proofs::Truths::begins_more, ctl_picks::proofs::Inside::inside_more, pipe_motion::proofs::Kept::flow_stays, pipe_gates::proofs::Known::known_d_valA, pipe_gates::proofs::Known::known_d_srcA, pipe_gates::proofs::Known::known_d_valB, pipe_gates::proofs::Known::known_d_srcB), unfolding(pipe_fields::specs::Layout::fields_of))]
 
 ghost use Rattle.std.specs.Prelude.{◌<◌, ◌≤◌, ◌+◌, ◌&&◌, ◌||◌, if◌then◌else◌, IfOk, IsTrue, length, not};
 ghost use Rattle.nets.specs.Nets.{ExtendsNet, IsGate, truth};
 ghost use Rattle.ctl_atoms.specs.declared.leaf.Leaf.TheVariants.{Name};
-ghost use Rattle.ctl_formula.specs.Picks.{Covers, IsInside, has_picks};
+ghost use Rattle.ctl_picks.specs.Picks.{Covers, IsInside, has_picks};
 ghost use Rattle.net_fields.specs.Spelling.{spelt};
 ghost use Rattle.dp_signals.specs.PipeNames as names;
 ghost use Rattle.dp_signals.specs.PipeTable.{pipe_rows};
@@ -19,7 +19,7 @@ ghost use Rattle.pipe_obligations.specs.Obligations as spec;
 
 use crate::execute::late_destination_is;
 use ctl_atoms::Leaf;
-use ctl_formula::Controls;
+use ctl_picks::Controls;
 use ctl_rules::{ExpectedLeaf, picks_leaf};
 use dp_signals::pipe_row as signal;
 use hcl_types::NameId;

@@ -26,10 +26,10 @@ use Rattle.dp_signals.proofs.Rules.{definition_rule}
 use Rattle.dp_signals.proofs.Bits.{constants_count}
 use Rattle.ctl_atoms.specs.declared.leaf.Leaf.TheVariants.{Number}
 use Rattle.ctl_atoms.specs.declared.leaf.Leaf.{Leaf}
-use Rattle.ctl_formula.specs.Controls.{AreControls, role_leaf, row_leaf}
-use Rattle.ctl_formula.specs.Laws.{IsDefinedBy, IsWorthGiven, real_assignment, leaf_value}
-use Rattle.ctl_formula.proofs.Rows.{rule_row}
-use Rattle.ctl_formula.proofs.Solved.{agreement}
+use Rattle.ctl_equations.specs.Controls.{AreControls, role_leaf, row_leaf}
+use Rattle.ctl_equations.specs.Laws.{IsDefinedBy, IsWorthGiven, real_assignment, leaf_value}
+use Rattle.ctl_equations.proofs.Rows.{rule_row}
+use Rattle.ctl_equations.proofs.Solved.{agreement}
 use Rattle.pipe_fields.specs.Layout.{number_of}
 use Rattle.pipe_refinement.specs.Invariant.{RunContext}
 use Rattle.pipe_refinement.specs.Kinds.{Schedule, in_m}

@@ -20,7 +20,7 @@ use Rattle.dp_signals.specs.declared.pipe_state.PipeState.{PipeState}
 use Rattle.dp_signals.proofs.Bits.{set_bit}
 use Rattle.ctl_atoms.specs.Leaves.{has_atom}
 use Rattle.ctl_atoms.specs.declared.leaf.Atom.{Atom}
-use Rattle.ctl_formula.specs.Laws.{real_assignment}
+use Rattle.ctl_equations.specs.Laws.{real_assignment}
 use Rattle.pipe_fields.specs.Layout.{FetchLine}
 use Rattle.pipe_obligations.specs.StageFlows.{back_matches_all, back_matches_in_f, below, is_jump, is_ret, is_missed, stage_flow_by, stops_by, back_matches}
 use Rattle.pipe_refinement.specs.Facts.{AccessFacts, AddressIs}

@@ -11,8 +11,8 @@ use Rattle.y86_base.specs.Words.{set}
 use Rattle.dp_signals.specs.declared.pipe_state.PipeState.{PipeState}
 use Rattle.ctl_atoms.specs.declared.leaf.Leaf.TheVariants.{Name}
 use Rattle.ctl_atoms.specs.declared.leaf.Leaf.{Leaf}
-use Rattle.ctl_formula.specs.Laws.{real_assignment, leaf_value}
-use Rattle.ctl_formula.proofs.Worths.{leaf_worth}
+use Rattle.ctl_equations.specs.Laws.{real_assignment, leaf_value}
+use Rattle.ctl_equations.proofs.Worths.{leaf_worth}
 use Rattle.ctl_rules.specs.ColumnDemands.{picks_leaf}
 use Rattle.pipe_motion.specs.Flow.{StageFlow, fetched_flow, moved_flow, next_is_right, path, youngest_stops}
 use Rattle.pipe_fields.specs.Layout.{FetchLine}

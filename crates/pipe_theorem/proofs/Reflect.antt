@@ -24,8 +24,8 @@ use Rattle.ctl_atoms.specs.Leaves.{leaf_eq, leaf_holds}
 use Rattle.ctl_atoms.specs.declared.leaf.Leaf.TheVariants.{Name, Number}
 use Rattle.ctl_atoms.specs.declared.leaf.Leaf.{Leaf}
 use Rattle.ctl_atoms.proofs.Listed.{apart}
-use Rattle.ctl_formula.specs.Laws.{real_assignment, leaf_value}
-use Rattle.ctl_formula.proofs.Worths.{leaf_worth, holds_is}
+use Rattle.ctl_equations.specs.Laws.{real_assignment, leaf_value}
+use Rattle.ctl_equations.proofs.Worths.{leaf_worth, holds_is}
 use Rattle.ctl_rules.specs.ColumnDemands.{address_leaf, is_number, is_truth, operand_leaf_a, operand_leaf_b, picks_leaf, picks_some_leaf}
 use Rattle.pipe_motion.specs.Predictions.{predicts}
 use Rattle.pipe_motion.specs.Flow.{RegisterControls}

@@ -22,8 +22,8 @@ use Rattle.dp_signals.proofs.Bits.{set_bit}
 use Rattle.ctl_atoms.specs.Leaves.{Assignment}
 use Rattle.ctl_atoms.specs.declared.leaf.Atom.{Atom}
 use Rattle.ctl_atoms.specs.declared.leaf.Leaf.{Leaf}
-use Rattle.ctl_formula.specs.Laws.{HasControls, real_assignment, leaf_value}
-use Rattle.ctl_formula.proofs.Solved.{controls_exist}
+use Rattle.ctl_equations.specs.Laws.{HasControls, real_assignment, leaf_value}
+use Rattle.ctl_equations.proofs.Solved.{controls_exist}
 use Rattle.pipe_motion.specs.Flow.{flow_legal}
 use Rattle.pipe_fields.specs.Allowed.{allowed}
 use Rattle.pipe_fields.specs.Layout.{Fields, InRange, number_of}

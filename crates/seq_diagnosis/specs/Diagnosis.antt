@@ -5,7 +5,7 @@ use Rattle.hcl_types.specs.declared.term.Term.{Term}
 use Rattle.ctl_atoms.specs.declared.leaf.Leaf.{Leaf}
 use Rattle.ctl_atoms.specs.declared.leaf.Atom.{Atom}
 use Rattle.ctl_atoms.specs.Leaves.{Assignment, AtomsAre}
-use Rattle.ctl_formula.specs.Controls.{AreControls}
+use Rattle.ctl_equations.specs.Controls.{AreControls}
 use Rattle.control_values.specs.Given.{assigned, at, field_at}
 use Rattle.net_fields.specs.FieldSpecs.{decoded, total}
 use Rattle.findings.specs.Findings.{are_right, finding}

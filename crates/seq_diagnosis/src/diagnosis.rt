@@ -2,7 +2,7 @@
 ghost use Rattle.std.specs.Prelude.{◌≡◌, ◌≤◌, IfOk};
 ghost use Rattle.hcl_types.specs.Tables.{IsOrderOf};
 ghost use Rattle.ctl_atoms.specs.Atoms.{AreAtoms};
-ghost use Rattle.ctl_formula.specs.Controls.{AreControls};
+ghost use Rattle.ctl_equations.specs.Controls.{AreControls};
 ghost use Rattle.control_values.specs.Given.{at, field_at};
 ghost use Rattle.seq_requirements.specs.Datapaths.{rows_of, spots_of};
 ghost use Rattle.seq_diagnosis.specs.Diagnosis as spec;

@@ -7,12 +7,12 @@ use Rattle.ctl_atoms.specs.Atoms.{AreAtoms}
 use Rattle.ctl_atoms.specs.Leaves.{Assignment, AtomsAre}
 use Rattle.ctl_atoms.specs.declared.leaf.Atom.{Atom}
 use Rattle.ctl_atoms.specs.declared.leaf.Leaf.{Leaf}
-use Rattle.ctl_formula.specs.Controls.{AreControls}
-use Rattle.ctl_formula.specs.declared.controls.Entry.{Entry}
-use Rattle.ctl_formula.specs.declared.controls.Place.{Place}
-use Rattle.ctl_formula.specs.Picks.{IsInside, EncodesControls}
-use Rattle.ctl_formula.specs.Places.{Spells}
-use Rattle.ctl_formula.proofs.Inside.{tells_more}
+use Rattle.ctl_equations.specs.Controls.{AreControls}
+use Rattle.ctl_picks.specs.declared.controls.Entry.{Entry}
+use Rattle.ctl_given.specs.declared.places.Place.{Place}
+use Rattle.ctl_picks.specs.Picks.{IsInside, EncodesControls}
+use Rattle.ctl_given.specs.Places.{Spells}
+use Rattle.ctl_picks.proofs.Inside.{tells_more}
 use Rattle.ctl_rules.specs.declared.rules.Rule.{Rule}
 use Rattle.seq_obligations.specs.Obligations.{rule_count}
 use Rattle.seq_obligations.specs.Rules.{AreDesignedRules, AreNumbered}

@@ -7,9 +7,9 @@ use Rattle.dp_signals.specs.SeqNames as signal
 use Rattle.dp_signals.specs.SeqTable.{seq_rows, seq_state, seq_hardware, seq_defined}
 use Rattle.dp_signals.specs.SequentialTables.{control_rows}
 use Rattle.dp_signals.specs.Tables.{constant_rows}
-use Rattle.ctl_formula.specs.declared.controls.Entry.{Entry}
-use Rattle.ctl_formula.specs.Picks.{Covers}
-use Rattle.ctl_formula.specs.Places.{HavePlaces, Spells}
+use Rattle.ctl_picks.specs.declared.controls.Entry.{Entry}
+use Rattle.ctl_picks.specs.Picks.{Covers}
+use Rattle.ctl_given.specs.Places.{HavePlaces, Spells}
 use Rattle.ctl_rules.specs.declared.rules.Rule.{Rule}
 use Rattle.seq_obligations.specs.Fields.{allowed, bit_count, fields_of, line_at, number_of, seq_line}
 use Rattle.seq_obligations.specs.Obligations.{demand_at, seq_signals}

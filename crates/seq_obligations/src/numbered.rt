@@ -3,17 +3,18 @@ ghost use Rattle.std.specs.Prelude.{◌≡◌, ◌≤◌, ◌||◌, not, ℕ, Li
 ghost use Rattle.nets.specs.Nets.{ExtendsNet};
 ghost use Rattle.ctl_atoms.specs.declared.leaf.Leaf.{Leaf};
 ghost use Rattle.ctl_atoms.specs.Leaves.{Assignment};
-ghost use Rattle.ctl_formula.specs.declared.controls.Entry.{Entry};
-ghost use Rattle.ctl_formula.specs.Picks.{Covers, IsInside};
-ghost use Rattle.ctl_formula.specs.Places.{HavePlaces, Spells};
-ghost use Rattle.ctl_formula.specs.declared.controls.Place.{Place as FieldPlace};
+ghost use Rattle.ctl_picks.specs.declared.controls.Entry.{Entry};
+ghost use Rattle.ctl_picks.specs.Picks.{Covers, IsInside};
+ghost use Rattle.ctl_given.specs.Places.{HavePlaces, Spells};
+ghost use Rattle.ctl_given.specs.declared.places.Place.{Place as FieldPlace};
 ghost use Rattle.hcl_types.specs.Tables.{IsSound};
 ghost use Rattle.hcl_types.specs.declared.table.Row.{Row};
 ghost use Rattle.ctl_rules.specs.ControlGates.{IsControlGate};
 ghost use Rattle.seq_obligations.specs.Obligations.{rule_count};
 ghost use Rattle.seq_obligations.specs.Rules.{AreNumbered};
 
-use ctl_formula::{Controls, Place};
+use ctl_picks::Controls;
+use ctl_given::Place;
 use ctl_rules::Rule;
 use hcl_types::Table;
 use nets::NetBuilder;

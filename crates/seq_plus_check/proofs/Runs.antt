@@ -35,10 +35,10 @@ use Rattle.dp_sequential.specs.Cycle.{record_by, stepped}
 use Rattle.dp_signals.specs.SequentialTables.{control_rows}
 use Rattle.net_fields.specs.FieldSpecs.{InRange}
 use Rattle.ctl_atoms.specs.declared.leaf.Leaf.{Leaf}
-use Rattle.ctl_formula.specs.Controls.{AreControls}
-use Rattle.ctl_formula.specs.Laws.{HasControls, real_assignment}
-use Rattle.ctl_formula.specs.declared.controls.Place.{Place}
-use Rattle.ctl_formula.proofs.Solved.{controls_exist}
+use Rattle.ctl_equations.specs.Controls.{AreControls}
+use Rattle.ctl_equations.specs.Laws.{HasControls, real_assignment}
+use Rattle.ctl_given.specs.declared.places.Place.{Place}
+use Rattle.ctl_equations.proofs.Solved.{controls_exist}
 use Rattle.seq_obligations.specs.Fields.{plus_bit_count}
 use Rattle.seq_obligations.specs.Obligations.{shared_demand, rule_count}
 use Rattle.seq_refinement.specs.Cycle.{Agrees}

@@ -7,7 +7,7 @@ use Rattle.y86_isa.specs.declared.machine.Rec.{Rec}
 use Rattle.hcl_types.specs.declared.term.Term.{Term}
 use Rattle.ctl_atoms.specs.Leaves.{Assignment}
 use Rattle.ctl_atoms.specs.declared.leaf.Leaf.{Leaf}
-use Rattle.ctl_formula.specs.Controls.{AreControls}
+use Rattle.ctl_equations.specs.Controls.{AreControls}
 use Rattle.seq_obligations.specs.Obligations.{rule_count}
 use Rattle.net_fields.specs.FieldSpecs.{InRange}
 use Rattle.seq_plus.specs.PlusRun.{PlusRun, PlusEndIs}

@@ -2,9 +2,9 @@
 use Rattle.std.proofs.Common.{◌≡◌, ℕ, ◌+◌, ◌≤◌, IsTrue, Bool, true, List, refl, arith}
 use Rattle.dp_signals.specs.Tables.{constant_rows}
 use Rattle.dp_signals.specs.SequentialTables.{control_rows}
-use Rattle.ctl_formula.specs.declared.controls.Entry.{Entry}
-use Rattle.ctl_formula.specs.Picks.{Covers}
-use Rattle.ctl_formula.specs.Places.{HavePlaces, Spells}
+use Rattle.ctl_picks.specs.declared.controls.Entry.{Entry}
+use Rattle.ctl_picks.specs.Picks.{Covers}
+use Rattle.ctl_given.specs.Places.{HavePlaces, Spells}
 use Rattle.seq_obligations.specs.Fields.{plus_bit_count}
 use Rattle.seq_plus.specs.PlusNames as signal
 use Rattle.seq_plus.specs.PlusTable.{plus_rows, plus_state, plus_hardware, plus_defined}

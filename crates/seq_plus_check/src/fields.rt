@@ -3,7 +3,7 @@ ghost use Rattle.std.specs.Prelude.{◌≡◌};
 ghost use Rattle.seq_plus_check.specs.Fields as spec;
 ghost use Rattle.seq_plus_check.specs.Rules.{places};
 
-use ctl_formula::Place;
+use ctl_given::Place;
 use net_fields::FieldSpec;
 use seq_obligations::{P_CND, P_ICODE, PLUS_LINE, line_places, line_spots};
 use seq_plus::row::{self, PLUS};

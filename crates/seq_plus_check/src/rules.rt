@@ -3,7 +3,7 @@ ghost use Rattle.std.specs.Prelude.{◌≡◌, ◌≤◌, ◌+◌, length, IfErr
 ghost use Rattle.nets.specs.Nets.{ExtendsNet, IsGate};
 ghost use Rattle.y86_isa.specs.Table.{row, rows};
 ghost use Rattle.ctl_atoms.specs.Atoms.{AreAtoms, IsCtlFault};
-ghost use Rattle.ctl_formula.specs.Picks.{has_picks};
+ghost use Rattle.ctl_picks.specs.Picks.{has_picks};
 ghost use Rattle.y86_base.specs.Words.{set};
 ghost use Rattle.net_fields.specs.Spelling.{spelt};
 ghost use Rattle.hcl_types.specs.Tables.{IsBound, IsOrderOf};
@@ -19,7 +19,8 @@ ghost use Rattle.seq_plus_check.specs.Rules.{ArePlusRules, IsPlusReady, places};
 
 use crate::fields::places;
 use ctl_atoms::CtlFault;
-use ctl_formula::{Controls, Place};
+use ctl_picks::Controls;
+use ctl_given::Place;
 use ctl_rules::{NextPcInputs, RowGates, Rules, by_icode, next_is};
 use hcl_types::{Design, Order, Table};
 use net_fields::below;

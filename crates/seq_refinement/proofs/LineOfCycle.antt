@@ -12,7 +12,7 @@ use Rattle.y86_isa.specs.declared.machine.Machine.{Machine}
 use Rattle.dp_signals.specs.Values.{bit}
 use Rattle.dp_signals.specs.declared.sequential_rows.SignalRows.{SignalRows}
 use Rattle.ctl_atoms.specs.declared.leaf.Leaf.{Leaf}
-use Rattle.ctl_formula.specs.Laws.{real_assignment}
+use Rattle.ctl_equations.specs.Laws.{real_assignment}
 use Rattle.seq_obligations.specs.Obligations.{shared_demand}
 use Rattle.seq_refinement.specs.Cycle.{Agrees, fields_at}
 use Rattle.seq_refinement.specs.Hardware.{HasHardware}

@@ -9,7 +9,7 @@ use Rattle.ctl_atoms.specs.Atoms.{AreAtoms}
 use Rattle.ctl_atoms.specs.Leaves.{Assignment}
 use Rattle.ctl_atoms.specs.declared.leaf.Atom.{Atom}
 use Rattle.ctl_atoms.specs.declared.leaf.Leaf.{Leaf}
-use Rattle.ctl_formula.specs.Controls.{AreControls}
+use Rattle.ctl_equations.specs.Controls.{AreControls}
 use Rattle.net_fields.specs.FieldSpecs.{InRange, number_among, total}
 use Rattle.bdd_decide.specs.Decisions.{IsLeastOf}
 use Rattle.seq_obligations.specs.Obligations.{rule_count}

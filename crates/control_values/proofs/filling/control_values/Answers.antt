@@ -3,7 +3,7 @@ use Rattle.std.proofs.lemmas.List.{at_drop_all}
 use Rattle.hcl_types.specs.declared.table.Row.{Row}
 use Rattle.hcl_types.specs.Equations.{evaluated_along}
 use Rattle.hcl_types.specs.Tables.{IsOrderOf}
-use Rattle.ctl_formula.specs.Controls.{AreControls, control_rule}
+use Rattle.ctl_equations.specs.Controls.{AreControls, control_rule}
 use Rattle.ctl_atoms.specs.declared.leaf.Leaf.{Leaf}
 use Rattle.control_values.specs.Given.{assigned, at, field_at}
 use Rattle.control_values.proofs.Solved.{leaves_solve}

@@ -1,6 +1,6 @@
 use Rattle.std.proofs.Common.{◌≡◌, drop, length, slice_set}
 use Rattle.hcl_types.specs.Equations.{evaluated_along}
-use Rattle.ctl_formula.specs.Controls.{control_rule}
+use Rattle.ctl_equations.specs.Controls.{control_rule}
 use Rattle.control_values.specs.Given.{assigned, at, field_at}
 use Rattle.control_values.proofs.filling.control_values.Given as goal
 

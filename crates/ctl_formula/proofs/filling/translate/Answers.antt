@@ -4,7 +4,7 @@ use Rattle.hcl_types.specs.declared.table.Row.{Row}
 use Rattle.ctl_atoms.specs.declared.leaf.Atom.{Atom}
 use Rattle.ctl_atoms.specs.Atoms.{AreAtoms}
 use Rattle.ctl_atoms.specs.Leaves.{AtomsAre}
-use Rattle.ctl_formula.specs.Controls.{AreControls}
+use Rattle.ctl_equations.specs.Controls.{AreControls}
 use Rattle.ctl_formula.proofs.OneByOne.{one_list}
 use Rattle.ctl_formula.proofs.filling.translate.Goals as goal
 

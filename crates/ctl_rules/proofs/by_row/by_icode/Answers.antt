@@ -1,6 +1,6 @@
 use Rattle.std.proofs.Common.{◌≡◌, ◌==◌, ◌||◌, ◌&&◌, not, refl, sym, ◌∙◌, ap, subst, arith}
 use Rattle.nets.proofs.Truths.{begins_more}
-use Rattle.ctl_formula.proofs.Inside.{inside_more}
+use Rattle.ctl_picks.proofs.Inside.{inside_more}
 use Rattle.y86_isa.specs.Table.{row}
 use Rattle.net_fields.specs.Spelling.{spelt}
 use Rattle.net_fields.specs.Icodes.{where_below}

@@ -1,7 +1,7 @@
 use Rattle.std.proofs.Common.{◌≡◌, ◌<◌, ◌||◌, length, drop, List, Bool}
 use Rattle.nets.specs.Nets.{truth, ExtendsNet}
 use Rattle.ctl_atoms.specs.Leaves.{leaf_eq}
-use Rattle.ctl_formula.specs.Picks.{Within, some_pick}
+use Rattle.ctl_picks.specs.Picks.{Within, some_pick}
 use Rattle.ctl_rules.specs.ControlGates.{leaf_expected}
 use Rattle.ctl_rules.proofs.expected_leaf.one_taken.Given as goal
 

@@ -2,7 +2,7 @@ use Rattle.std.proofs.Common.{if◌then◌else◌, ap, ◌∙◌}
 use Rattle.std.proofs.lemmas.Result.{IfOk-weaker}
 use Rattle.nets.specs.Nets.{truth}
 use Rattle.nets.proofs.Truths.{begins_more}
-use Rattle.ctl_formula.proofs.Inside.{inside_more}
+use Rattle.ctl_picks.proofs.Inside.{inside_more}
 use Rattle.ctl_atoms.specs.Leaves.{leaf_eq}
 use Rattle.ctl_rules.specs.ControlGates.{leaf_expected}
 use Rattle.ctl_rules.proofs.Kept.{asked_two, asked_more, asked_as, eq_if}

@@ -4,7 +4,7 @@ use Rattle.dp_signals.specs.PipeTable.{pipe_rows}
 use Rattle.dp_signals.proofs.Sound.{pipe_sound}
 use Rattle.ctl_atoms.specs.Atoms.{AreAtoms}
 use Rattle.ctl_atoms.proofs.Solved.{atoms_one}
-use Rattle.ctl_formula.specs.Places.{HavePlaces}
+use Rattle.ctl_given.specs.Places.{HavePlaces}
 use Rattle.hazard_rules.proofs.Designed.{places_stand, told_design}
 use Rattle.hazard_rules.proofs.design.translated.Goals as goal
 use Rattle.pipe_fields.specs.Layout.{bit_count}

@@ -1,6 +1,6 @@
 use Rattle.std.proofs.Common.{◌≤◌, ◌∙◌, arith}
 use Rattle.nets.proofs.Truths.{begins_more, gate_kept}
-use Rattle.ctl_formula.proofs.Inside.{inside_more}
+use Rattle.ctl_picks.proofs.Inside.{inside_more}
 use Rattle.pipe_fields.specs.Layout.{bit_count}
 use Rattle.pipe_stage_gates.proofs.Ready.{ready_by}
 use Rattle.hazard_rules.proofs.Listed.{told_more}

@@ -1,6 +1,6 @@
 use Rattle.std.proofs.Common.{◌<◌, length, ◌∙◌, arith}
 use Rattle.std.proofs.lemmas.List.{length-set}
-use Rattle.ctl_formula.proofs.Inside.{inside_more}
+use Rattle.ctl_picks.proofs.Inside.{inside_more}
 use Rattle.nets.proofs.Truths.{begins_more, gate_kept}
 use Rattle.ctl_rules.proofs.Kept.{asked_more, tells_less}
 use Rattle.pipe_obligations.specs.FileSettings.{picks_target}

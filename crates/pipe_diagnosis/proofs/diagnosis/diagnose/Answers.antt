@@ -4,7 +4,7 @@ use Rattle.hcl_types.specs.Tables.{IsSound}
 use Rattle.dp_signals.specs.PipeTable.{pipe_rows}
 use Rattle.dp_signals.proofs.Sound.{pipe_sound}
 use Rattle.ctl_atoms.specs.declared.leaf.Leaf.{Leaf}
-use Rattle.ctl_formula.specs.Controls.{AreControls}
+use Rattle.ctl_equations.specs.Controls.{AreControls}
 use Rattle.control_values.specs.Given.{assigned, at, field_at}
 use Rattle.net_fields.specs.declared.field_specs.FieldSpec.{FieldSpec}
 use Rattle.pipe_fields.specs.Layout.{bit_count, fields_of, field_specs}

@@ -1,7 +1,7 @@
 use Rattle.std.proofs.Common.{◌||◌, ◌&&◌, ◌∙◌, ap, arith}
 use Rattle.nets.proofs.Truths.{begins_more}
 use Rattle.y86_isa.specs.declared.columns.Row.{Row}
-use Rattle.ctl_formula.proofs.Inside.{inside_more}
+use Rattle.ctl_picks.proofs.Inside.{inside_more}
 use Rattle.ctl_rules.specs.ColumnDemands as words
 use Rattle.ctl_rules.proofs.Kept.{asked_two, asked_more, asked_as}
 use Rattle.pipe_gates.specs.Columns.{has, row_passes}

@@ -1,6 +1,6 @@
 use Rattle.std.proofs.Common.{◌||◌, get_or, false, arith}
 use Rattle.nets.proofs.Truths.{begins_more}
-use Rattle.ctl_formula.proofs.Inside.{inside_more}
+use Rattle.ctl_picks.proofs.Inside.{inside_more}
 use Rattle.ctl_rules.proofs.Kept.{asked_two, asked_more, asked_as}
 use Rattle.pipe_obligations.specs.Obligations.{code_of}
 use Rattle.pipe_motion_gates.proofs.Codes.{code_step, below_all, listed_past}

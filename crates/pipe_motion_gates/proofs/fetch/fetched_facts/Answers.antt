@@ -1,5 +1,5 @@
 use Rattle.nets.proofs.Truths.{begins_more, gate_kept}
-use Rattle.ctl_formula.proofs.Inside.{inside_more}
+use Rattle.ctl_picks.proofs.Inside.{inside_more}
 use Rattle.ctl_rules.proofs.Kept.{asked_more}
 use Rattle.pipe_motion_gates.proofs.fetch.fetched_facts.Goals as goal
 

@@ -1,7 +1,7 @@
 use Rattle.std.proofs.Common.{◌&&◌, ap, arith}
 use Rattle.std.proofs.lemmas.Result.{IfOk-weaker}
 use Rattle.dp_signals.specs.PipeNames as names
-use Rattle.ctl_formula.proofs.Inside.{inside_more}
+use Rattle.ctl_picks.proofs.Inside.{inside_more}
 use Rattle.ctl_rules.proofs.Kept.{asked_two, asked_more, asked_as}
 use Rattle.pipe_gates.specs.Columns.{has}
 use Rattle.pipe_gates.specs.declared.columns.RowTest.TheVariants.{Jump}

@@ -4,7 +4,7 @@ use Rattle.nets.specs.Nets.{agree}
 use Rattle.nets.proofs.Truths.{begins_more}
 use Rattle.dp_signals.specs.PipeNames as names
 use Rattle.y86_base.specs.Words.{set}
-use Rattle.ctl_formula.proofs.Inside.{inside_more}
+use Rattle.ctl_picks.proofs.Inside.{inside_more}
 use Rattle.pipe_fields.specs.Layout.{fields_of}
 use Rattle.pipe_motion.specs.Predictions.{predicts}
 use Rattle.ctl_rules.proofs.Kept.{asked_two, asked_more, asked_as, asked_gate}

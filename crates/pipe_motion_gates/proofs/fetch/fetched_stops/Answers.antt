@@ -1,7 +1,7 @@
 use Rattle.std.proofs.Common.{◌&&◌, ◌==◌, ◌∙◌, not, ap, arith}
 use Rattle.std.proofs.lemmas.Result.{IfOk-weaker}
 use Rattle.dp_signals.specs.PipeNames as names
-use Rattle.ctl_formula.proofs.Inside.{inside_more}
+use Rattle.ctl_picks.proofs.Inside.{inside_more}
 use Rattle.pipe_fields.specs.Layout.{fields_of}
 use Rattle.ctl_rules.proofs.Kept.{asked_one, asked_two, asked_more, asked_as, asked_gate}
 use Rattle.pipe_obligations.specs.Obligations.{code_of}

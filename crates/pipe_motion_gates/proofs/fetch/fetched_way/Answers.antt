@@ -2,7 +2,7 @@ use Rattle.std.proofs.Common.{◌==◌, if◌then◌else◌, get_or, false}
 use Rattle.std.proofs.lemmas.Result.{IfOk-weaker}
 use Rattle.nets.proofs.Truths.{begins_more}
 use Rattle.dp_signals.specs.PipeNames as names
-use Rattle.ctl_formula.proofs.Inside.{inside_more}
+use Rattle.ctl_picks.proofs.Inside.{inside_more}
 use Rattle.pipe_fields.specs.Layout.{fields_of}
 use Rattle.ctl_rules.proofs.Kept.{asked_more, asked_as, asked_gate}
 use Rattle.pipe_obligations.specs.Obligations.{code_of}

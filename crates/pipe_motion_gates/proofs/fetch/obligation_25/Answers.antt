@@ -1,7 +1,7 @@
 use Rattle.std.proofs.Common.{◌∙◌}
 use Rattle.std.proofs.lemmas.Result.{IfOk-weaker}
 use Rattle.nets.proofs.Truths.{begins_more}
-use Rattle.ctl_formula.proofs.Inside.{inside_more}
+use Rattle.ctl_picks.proofs.Inside.{inside_more}
 use Rattle.pipe_motion.proofs.Kept.{flow_kept}
 use Rattle.ctl_rules.proofs.Kept.{asked_more, tells_less}
 use Rattle.pipe_motion_gates.proofs.Codes.{next_by}

@@ -2,7 +2,7 @@ use Rattle.std.proofs.Common.{◌&&◌, ◌||◌, ap}
 use Rattle.std.proofs.lemmas.Result.{IfOk-weaker}
 use Rattle.ctl_atoms.specs.declared.leaf.Leaf.TheVariants.{Name}
 use Rattle.dp_signals.specs.PipeNames as names
-use Rattle.ctl_formula.proofs.Inside.{inside_more}
+use Rattle.ctl_picks.proofs.Inside.{inside_more}
 use Rattle.ctl_rules.specs.ColumnDemands as words
 use Rattle.ctl_rules.proofs.Kept.{asked_two, asked_more, asked_as}
 use Rattle.pipe_motion_gates.proofs.fetch.right_after_m.Goals as goal

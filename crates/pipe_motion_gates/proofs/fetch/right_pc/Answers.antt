@@ -3,7 +3,7 @@ use Rattle.std.proofs.lemmas.Result.{IfOk-weaker}
 use Rattle.nets.proofs.Truths.{begins_more, gate_kept}
 use Rattle.ctl_atoms.specs.declared.leaf.Leaf.TheVariants.{Name}
 use Rattle.dp_signals.specs.PipeNames as names
-use Rattle.ctl_formula.proofs.Inside.{inside_more}
+use Rattle.ctl_picks.proofs.Inside.{inside_more}
 use Rattle.y86_base.specs.Words.{set}
 use Rattle.pipe_fields.specs.Layout.{fields_of}
 use Rattle.pipe_motion.proofs.Kept.{flow_kept}

@@ -1,6 +1,6 @@
 use Rattle.std.proofs.Common.{◌∙◌, refl}
 use Rattle.nets.proofs.Truths.{begins_more}
-use Rattle.ctl_formula.proofs.Inside.{inside_more}
+use Rattle.ctl_picks.proofs.Inside.{inside_more}
 use Rattle.pipe_fields.specs.Layout.{fields_of}
 use Rattle.pipe_motion.proofs.Kept.{is_flow_kept}
 use Rattle.ctl_rules.proofs.Kept.{asked_more}

@@ -2,7 +2,7 @@ use Rattle.std.proofs.Common.{ap}
 use Rattle.std.proofs.lemmas.Result.{IfOk-weaker}
 use Rattle.ctl_rules.proofs.Kept.{asked_as}
 use Rattle.pipe_stage_gates.proofs.Joined.{truth_told}
-use Rattle.ctl_formula.proofs.Inside.{inside_more}
+use Rattle.ctl_picks.proofs.Inside.{inside_more}
 use Rattle.nets.specs.Nets.{agree}
 use Rattle.ctl_atoms.specs.Leaves.{leaf_holds}
 use Rattle.pipe_stage_gates.proofs.execute.truth_where.Goals as goal

@@ -2,7 +2,7 @@ use Rattle.std.proofs.Common.{◌&&◌, refl}
 use Rattle.std.proofs.lemmas.Result.{IfOk-weaker}
 use Rattle.ctl_rules.proofs.Kept.{asked_as, asked_more, asked_two}
 use Rattle.nets.proofs.Truths.{begins_more}
-use Rattle.ctl_formula.proofs.Inside.{inside_more}
+use Rattle.ctl_picks.proofs.Inside.{inside_more}
 use Rattle.pipe_fields.specs.Layout.{fields_of}
 use Rattle.pipe_stage_gates.proofs.memory.registers_written.Goals as goal
 

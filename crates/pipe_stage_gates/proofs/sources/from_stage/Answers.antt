@@ -2,7 +2,7 @@ use Rattle.std.proofs.Common.{ap, if◌then◌else◌}
 use Rattle.std.proofs.lemmas.Result.{IfOk-weaker}
 use Rattle.nets.specs.Nets.{truth}
 use Rattle.nets.proofs.Truths.{begins_more}
-use Rattle.ctl_formula.proofs.Inside.{inside_more}
+use Rattle.ctl_picks.proofs.Inside.{inside_more}
 use Rattle.ctl_atoms.specs.declared.leaf.Leaf.TheVariants.{Name}
 use Rattle.net_fields.specs.Spelling.{spelt}
 use Rattle.ctl_rules.specs.ColumnDemands as words

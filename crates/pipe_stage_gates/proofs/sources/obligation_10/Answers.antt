@@ -1,7 +1,7 @@
 use Rattle.std.proofs.Common.{◌&&◌, ◌||◌}
 use Rattle.std.proofs.lemmas.Result.{IfOk-weaker}
 use Rattle.nets.proofs.Truths.{begins_more}
-use Rattle.ctl_formula.proofs.Inside.{inside_more}
+use Rattle.ctl_picks.proofs.Inside.{inside_more}
 use Rattle.dp_signals.specs.PipeNames as signal
 use Rattle.pipe_fields.specs.Layout.{fields_of}
 use Rattle.pipe_motion.proofs.Kept.{flow_kept}

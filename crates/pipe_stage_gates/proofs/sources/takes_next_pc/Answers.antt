@@ -1,6 +1,6 @@
 use Rattle.std.proofs.Common.{◌||◌, not}
 use Rattle.std.proofs.lemmas.Result.{IfOk-weaker}
-use Rattle.ctl_formula.proofs.Inside.{inside_more}
+use Rattle.ctl_picks.proofs.Inside.{inside_more}
 use Rattle.pipe_fields.specs.Layout.{fields_of}
 use Rattle.ctl_rules.proofs.Kept.{asked_two, asked_more, asked_gate}
 use Rattle.pipe_stage_gates.proofs.sources.takes_next_pc.Goals as goal

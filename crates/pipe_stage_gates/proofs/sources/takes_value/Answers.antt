@@ -1,7 +1,7 @@
 use Rattle.std.proofs.Common.{◌&&◌, if◌then◌else◌}
 use Rattle.std.proofs.lemmas.Result.{IfOk-weaker}
 use Rattle.nets.proofs.Truths.{begins_more, gate_there}
-use Rattle.ctl_formula.proofs.Inside.{inside_more}
+use Rattle.ctl_picks.proofs.Inside.{inside_more}
 use Rattle.ctl_atoms.specs.declared.leaf.Leaf.TheVariants.{Name}
 use Rattle.y86_base.specs.Words.{set}
 use Rattle.y86_isa.specs.Table.{row}

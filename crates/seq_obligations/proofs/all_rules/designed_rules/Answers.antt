@@ -4,8 +4,8 @@ use Rattle.ctl_atoms.specs.Atoms.{AreAtoms}
 use Rattle.ctl_atoms.specs.Leaves.{Assignment}
 use Rattle.ctl_atoms.specs.declared.leaf.Leaf.{Leaf}
 use Rattle.ctl_atoms.proofs.Solved.{atoms_one}
-use Rattle.ctl_formula.specs.Picks.{Covers}
-use Rattle.ctl_formula.specs.Places.{HavePlaces}
+use Rattle.ctl_picks.specs.Picks.{Covers}
+use Rattle.ctl_given.specs.Places.{HavePlaces}
 use Rattle.seq_obligations.specs.Rules.{AreDesignedRules}
 use Rattle.seq_obligations.proofs.Ruled.{designed}
 use Rattle.seq_obligations.proofs.all_rules.designed_rules.Goals as goal

@@ -2,7 +2,7 @@ use Rattle.std.proofs.Common.{ℕ, Bool, ◌||◌, not, List, refl}
 use Rattle.nets.proofs.Truths.{begins_more}
 use Rattle.ctl_atoms.specs.declared.leaf.Leaf.{Leaf}
 use Rattle.ctl_atoms.specs.Leaves.{Assignment}
-use Rattle.ctl_formula.proofs.Inside.{inside_more}
+use Rattle.ctl_picks.proofs.Inside.{inside_more}
 use Rattle.ctl_rules.proofs.Kept.{asked_more}
 use Rattle.ctl_rules.proofs.Lists.{counted}
 use Rattle.seq_obligations.proofs.Listed.{rules_more, rules_pushed}

@@ -4,8 +4,8 @@ use Rattle.dp_signals.specs.SeqTable.{seq_rows}
 use Rattle.dp_signals.proofs.Sound.{seq_sound}
 use Rattle.ctl_atoms.specs.Atoms.{AreAtoms}
 use Rattle.ctl_atoms.proofs.Solved.{atoms_one}
-use Rattle.ctl_formula.specs.Picks.{Covers}
-use Rattle.ctl_formula.specs.Places.{HavePlaces}
+use Rattle.ctl_picks.specs.Picks.{Covers}
+use Rattle.ctl_given.specs.Places.{HavePlaces}
 use Rattle.seq_obligations.specs.Designed.{ready_by, places_stand}
 use Rattle.test_control.proofs.terms.translated.Goals as goal
 

@@ -1,8 +1,8 @@
 use Rattle.std.proofs.Common.{◌-◌, List, sym, subst}
 use Rattle.ctl_atoms.proofs.Solved.{leaves_exist}
-use Rattle.ctl_formula.specs.declared.controls.Entry.{Entry}
-use Rattle.ctl_formula.specs.Picks.{Covers, IsInside, EncodesControls}
-use Rattle.ctl_formula.specs.Laws.{AreApart}
+use Rattle.ctl_picks.specs.declared.controls.Entry.{Entry}
+use Rattle.ctl_picks.specs.Picks.{Covers, IsInside, EncodesControls}
+use Rattle.ctl_picks.specs.Laws.{AreApart}
 use Rattle.ctl_formula.proofs.Apart.{apart_all}
 use Rattle.ctl_formula.proofs.OneByOne.{covers_all, inside_all, tells_all}
 use Rattle.ctl_formula.proofs.filling.Definitions.controls.Goals as goal

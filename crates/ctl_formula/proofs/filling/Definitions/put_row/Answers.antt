@@ -6,9 +6,10 @@ use Rattle.hcl_types.specs.Tables.{is_defined}
 use Rattle.hcl_types.specs.Terms.{value}
 use Rattle.ctl_atoms.specs.Leaves.{leaf_meaning}
 use Rattle.ctl_atoms.specs.Rows.{row_term, defined_leaves}
-use Rattle.ctl_formula.specs.declared.controls.Entry.{Entry}
-use Rattle.ctl_formula.specs.TakenPicks.{at}
-use Rattle.ctl_formula.specs.Translatable.{EntryEncodes, IsEntryOf, EncodesSoFar, translatable}
+use Rattle.ctl_picks.specs.declared.controls.Entry.{Entry}
+use Rattle.ctl_picks.specs.TakenPicks.{at}
+use Rattle.ctl_picks.specs.Entries.{EntryEncodes, IsEntryOf}
+use Rattle.ctl_terms.specs.Translatable.{EncodesSoFar, translatable}
 use Rattle.ctl_formula.specs.Encoding.{IsPartialEncoding, is_filled}
 use Rattle.ctl_formula.proofs.Elements.{defined_below, set_here, set_passes}
 use Rattle.ctl_formula.proofs.OneByOne.{readied_at, truth_class, word_class, bound_class, filling_next, filled_entry}

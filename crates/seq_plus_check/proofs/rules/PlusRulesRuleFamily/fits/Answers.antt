@@ -1,6 +1,6 @@
 use Rattle.std.proofs.Common.{◌&&◌, refl}
 use Rattle.std.proofs.lemmas.Result.{IfOk-weaker}
-use Rattle.ctl_formula.proofs.Inside.{inside_more}
+use Rattle.ctl_picks.proofs.Inside.{inside_more}
 use Rattle.ctl_rules.proofs.Kept.{asked_as, asked_gate, asked_more, asked_two}
 use Rattle.seq_obligations.specs.Fields.{line_at}
 use Rattle.seq_plus_check.specs.Fields.{allowed, fields_of}

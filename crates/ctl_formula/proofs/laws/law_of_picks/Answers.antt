@@ -1,5 +1,0 @@
-use Rattle.ctl_formula.proofs.OneGate.{one_gate}
-use Rattle.ctl_formula.proofs.laws.law_of_picks.Goals as goal
-
-pub returns : goal.returns
-returns c = one_gate

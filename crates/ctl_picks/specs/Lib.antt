@@ -1,0 +1,4 @@
+pub mod Picks
+pub mod TakenPicks
+pub mod Entries
+pub mod Laws

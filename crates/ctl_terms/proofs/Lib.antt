@@ -1,0 +1,3 @@
+mod Pairs
+mod Opened
+pub mod Arms
