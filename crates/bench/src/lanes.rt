@@ -6,6 +6,7 @@ use dp_signals::{law_of_tables, pipe_table};
 use hcl_binding::bind;
 use hcl_order::order;
 use hcl_read::read;
+use hcl_types::OrderedDesign;
 use lane_eval::{Scratch, first_false_place};
 use nets::{Net, Valuation, eval};
 use std::alloc::{AllocError, Global};
@@ -25,10 +26,11 @@ fn obligations(alloc: Global) -> Option<Net> {
     let Ok(design) = bind(alloc, &file, &table) else {
         return None;
     };
-    let Ok(ids) = order(alloc, &design, &table) else {
+    let Ok(order) = order(alloc, &design, &table) else {
         return None;
     };
-    let Ok(rules) = file_rules(alloc, Variant::Base, &design, &ids) else {
+    let ordered = OrderedDesign { design, order };
+    let Ok(rules) = file_rules(alloc, Variant::Base, &ordered) else {
         return None;
     };
     Some(rules.net)

@@ -5,7 +5,7 @@ use dp_signals::{law_of_tables, pipe_table, seq_table};
 use hcl_binding::bind;
 use hcl_order::order;
 use hcl_read::read;
-use hcl_types::Plain;
+use hcl_types::{OrderedDesign, Plain};
 use pipe_path::Pipe;
 use retire_trace::drive;
 use seq_path::{Seq, run};
@@ -47,14 +47,15 @@ fn on_pipe(alloc: Global, cycles: u64) -> Option<u64>
     let Ok(design) = bind(alloc, &file, &table) else {
         return None;
     };
-    let Ok(ids) = order(alloc, &design, &table) else {
+    let Ok(order) = order(alloc, &design, &table) else {
         return None;
     };
     let Ok(walked) = bind(alloc, &file, &table) else {
         return None;
     };
     let mem = image(alloc)?;
-    let mut pipe = Pipe::new(Variant::Base, design, ids, Plain::new(&walked), mem);
+    let ordered = OrderedDesign { design, order };
+    let mut pipe = Pipe::new(Variant::Base, ordered, Plain::new(&walked), mem);
     let mut room = [0; 8];
     match drive(&mut pipe, cycles, false, &mut SureSink::over(&mut room)) {
         Ok(drove) => Some(drove.retired),
@@ -74,14 +75,15 @@ fn on_seq(alloc: Global, cycles: u64) -> Option<u64> {
     let Ok(design) = bind(alloc, &file, &table) else {
         return None;
     };
-    let Ok(ids) = order(alloc, &design, &table) else {
+    let Ok(order) = order(alloc, &design, &table) else {
         return None;
     };
     let Ok(walked) = bind(alloc, &file, &table) else {
         return None;
     };
     let mem = image(alloc)?;
-    let mut seq = Seq::new(Variant::Base, design, ids, Plain::new(&walked), mem);
+    let ordered = OrderedDesign { design, order };
+    let mut seq = Seq::new(Variant::Base, ordered, Plain::new(&walked), mem);
     Some(run(&mut seq, cycles).steps)
 }
 

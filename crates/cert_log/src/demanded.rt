@@ -10,7 +10,7 @@ use cert_checker::Demands;
 use ctl_atoms::CtlFault;
 use ctl_rules::Rule;
 use hazard_rules::{pipe_parts, pipe_rules};
-use hcl_types::{Design, Order};
+use hcl_types::OrderedDesign;
 use pipe_motion::Settings;
 use std::alloc::Global;
 use y86_base::{Items, Memory, Variant};
@@ -57,17 +57,16 @@ fn wanted(alloc: Global, list: &[Rule], target: bool, tv: u64) -> Result<Vec<u64
 pub fn demands(
     alloc: Global,
     variant: Variant,
-    design: &Design,
-    order: &Order,
+    ordered: &OrderedDesign,
     settings: Settings,
 ) -> Result<Demands, CtlFault>
-    requires bound { IsBound pipe_rows design.now.terms }
-    requires ordered { IsOrderOf pipe_rows design.now.terms order.now.ids }
-    ensures demands { IfOk result (DemandsFor variant design.now.terms settings) }
+    requires bound { IsBound pipe_rows ordered.now.design.terms }
+    requires ordered { IsOrderOf pipe_rows ordered.now.design.terms ordered.now.order.ids }
+    ensures demands { IfOk result (DemandsFor variant ordered.now.design.terms settings) }
     ensures inside { IfOk result AreInside }
-    ensures fault { IfErr result (IsCtlFault pipe_rows design.now.terms) }
+    ensures fault { IfErr result (IsCtlFault pipe_rows ordered.now.design.terms) }
 {
-    let parts = pipe_parts(alloc, variant, design, order)?;
+    let parts = pipe_parts(alloc, variant, ordered)?;
     let tv = parts.tv;
     let rules = match pipe_rules(alloc, parts, settings) {
         Ok(rules) => rules,

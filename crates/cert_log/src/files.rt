@@ -11,7 +11,7 @@ use crate::demanded::demands;
 use cert_checker::{CertError, Demands, recheck, stated};
 use cert_writer::write;
 use ctl_atoms::CtlFault;
-use hcl_types::{Design, Order};
+use hcl_types::OrderedDesign;
 use pipe_motion::Settings;
 use std::alloc::Global;
 use verdict_text::pipe_acceptance;
@@ -22,17 +22,16 @@ use y86_base::{Memory, Variant, put};
 fn demands_of(
     alloc: Global,
     variant: Variant,
-    design: &Design,
-    order: &Order,
+    ordered: &OrderedDesign,
     settings: Settings,
 ) -> Result<Demands, Memory>
-    requires bound { IsBound pipe_rows design.now.terms }
-    requires ordered { IsOrderOf pipe_rows design.now.terms order.now.ids }
-    requires atoms { spec.HasControlValues design.now.terms }
-    ensures demands { IfOk result (DemandsFor variant design.now.terms settings) }
+    requires bound { IsBound pipe_rows ordered.now.design.terms }
+    requires ordered { IsOrderOf pipe_rows ordered.now.design.terms ordered.now.order.ids }
+    requires atoms { spec.HasControlValues ordered.now.design.terms }
+    ensures demands { IfOk result (DemandsFor variant ordered.now.design.terms settings) }
     ensures inside { IfOk result AreInside }
 {
-    match demands(alloc, variant, design, order, settings) {
+    match demands(alloc, variant, ordered, settings) {
         Ok(demands) => Ok(demands),
         Err(CtlFault::Memory) => Err(Memory),
         Err(CtlFault::Mixed(_)) => unreachable!(),
@@ -46,16 +45,15 @@ fn demands_of(
 pub fn certify(
     alloc: Global,
     variant: Variant,
-    design: &Design,
-    order: &Order,
+    ordered: &OrderedDesign,
     settings: Settings,
 ) -> Result<Vec<u8>, Memory>
-    requires bound { IsBound pipe_rows design.now.terms }
-    requires ordered { IsOrderOf pipe_rows design.now.terms order.now.ids }
-    requires meets { spec.MeetsAt variant design.now.terms settings }
-    ensures { IfOk result (λ text. spec.IsCertificate variant design.now.terms settings text.items) }
+    requires bound { IsBound pipe_rows ordered.now.design.terms }
+    requires ordered { IsOrderOf pipe_rows ordered.now.design.terms ordered.now.order.ids }
+    requires meets { spec.MeetsAt variant ordered.now.design.terms settings }
+    ensures { IfOk result (λ text. spec.IsCertificate variant ordered.now.design.terms settings text.items) }
 {
-    let demands = demands_of(alloc, variant, design, order, settings)?;
+    let demands = demands_of(alloc, variant, ordered, settings)?;
     match write(alloc, &demands)? {
         Some(text) => Ok(text),
         None => unreachable!(),
@@ -70,23 +68,22 @@ pub fn certify(
 pub fn recheck_file(
     alloc: Global,
     variant: Variant,
-    design: &Design,
-    order: &Order,
+    ordered: &OrderedDesign,
     bytes: &[u8],
 ) -> Result<Settings, CertError>
-    requires bound { IsBound pipe_rows design.now.terms }
-    requires ordered { IsOrderOf pipe_rows design.now.terms order.now.ids }
-    requires atoms { spec.HasControlValues design.now.terms }
-    ensures right { IfOk result (λ s. spec.IsCertificate variant design.now.terms s bytes.now) }
-    ensures meets { IfOk result (spec.MeetsAt variant design.now.terms) }
-    ensures refines { OnOk result (RefinesPipe variant design.now.terms) }
-    ensures fault { IfErr result (spec.IsRefused variant design.now.terms bytes.now) }
+    requires bound { IsBound pipe_rows ordered.now.design.terms }
+    requires ordered { IsOrderOf pipe_rows ordered.now.design.terms ordered.now.order.ids }
+    requires atoms { spec.HasControlValues ordered.now.design.terms }
+    ensures right { IfOk result (λ s. spec.IsCertificate variant ordered.now.design.terms s bytes.now) }
+    ensures meets { IfOk result (spec.MeetsAt variant ordered.now.design.terms) }
+    ensures refines { OnOk result (RefinesPipe variant ordered.now.design.terms) }
+    ensures fault { IfErr result (spec.IsRefused variant ordered.now.design.terms bytes.now) }
 {
     let settings = match stated(alloc, bytes) {
         Ok(settings) => settings,
         Err(error) => return Err(error),
     };
-    let demands = match demands_of(alloc, variant, design, order, settings) {
+    let demands = match demands_of(alloc, variant, ordered, settings) {
         Ok(demands) => demands,
         Err(Memory) => return Err(CertError::Memory),
     };

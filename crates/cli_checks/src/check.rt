@@ -1,16 +1,17 @@
 //! `check seq`, `check seqplus` and `check pipe`: the verdict on the design of an HCL file.
 ghost use Rattle.std.specs.Prelude.{◌≡◌, List, ℕ};
 ghost use Rattle.dp_signals.specs.PipeTable.{pipe_rows};
+ghost use Rattle.hcl_types.specs.Tables.{IsBoundDesign};
 ghost use Rattle.cli_checks.specs.Answers.{check_pipe_plan, check_seq_plan};
 ghost use Rattle.cli_checks.specs.Checks.{PipeChecks, SeqChecks};
 ghost use Rattle.cli_plans.specs.Datapaths.{rows_of};
-ghost use Rattle.cli_plans.specs.Designs.{IsOrdered};
 ghost use Rattle.cli_plans.specs.PlanFollowing.{FollowsPlanOver, WritesAnswerOn};
 
 use crate::sequential::{decided, seq_text};
-use cli_plans::{Datapath, OrderedDesign, StopReason, pipe_file, seq_file, write_answer};
+use cli_plans::{Datapath, StopReason, pipe_file, seq_file, write_answer};
 use cli_verdicts::{PipeVerdictText, control_stop, pipe_verdict};
 use control_check::CheckFault;
+use hcl_types::BoundDesign;
 use std::alloc::Global;
 use wb_io::{Files, Sink};
 use y86_base::Variant;
@@ -22,19 +23,19 @@ fn say_seq<'a, O: Sink>(
     which: Datapath,
     name: &'a str,
     variant: Variant,
-    ordered: &OrderedDesign,
+    bound: &BoundDesign,
     out: &mut O,
 ) -> Result<u8, StopReason<'a>>
-    requires { IsOrdered (rows_of which) ordered.now }
-    ensures { WritesAnswerOn O.taken O.faults (SeqChecks which name.now variant ordered.now.design.terms) out.old out.new result }
+    requires { IsBoundDesign (rows_of which) bound.now }
+    ensures { WritesAnswerOn O.taken O.faults (SeqChecks which name.now variant bound.now.ordered.design.terms) out.old out.new result }
 {
-    match decided(alloc, which, variant, ordered) {
+    match decided(alloc, which, variant, bound) {
         Ok(None) => write_answer(0, b"yes\n", out),
-        Ok(Some(denial)) => match seq_text(alloc, which, ordered, &denial) {
+        Ok(Some(denial)) => match seq_text(alloc, which, bound, &denial) {
             Ok(text) => write_answer(1, text.as_slice(), out),
             Err(stop) => Err(stop),
         },
-        Err(CheckFault::Ctl(fault)) => Err(control_stop(alloc, name, ordered, fault)),
+        Err(CheckFault::Ctl(fault)) => Err(control_stop(alloc, name, bound, fault)),
         Err(CheckFault::Memory) => Err(StopReason::Memory),
     }
 }
@@ -52,11 +53,11 @@ pub fn check_seq_file<'a, F: Files, O: Sink>(
     ensures { FollowsPlanOver F.told F.faults O.taken O.faults (check_seq_plan which name.now variant)
         files.old files.new out.old out.new result }
 {
-    let ordered = match seq_file(alloc, which, name, files) {
-        Ok(ordered) => ordered,
+    let bound = match seq_file(alloc, which, name, files) {
+        Ok(bound) => bound,
         Err(stop) => return Err(stop),
     };
-    say_seq(alloc, which, name, variant, &ordered, out)
+    say_seq(alloc, which, name, variant, &bound, out)
 }
 
 /// Decides a design for PIPE, and writes the verdict.
@@ -65,13 +66,13 @@ fn say_pipe<'a, O: Sink>(
     alloc: Global,
     name: &'a str,
     variant: Variant,
-    ordered: &OrderedDesign,
+    bound: &BoundDesign,
     out: &mut O,
 ) -> Result<u8, StopReason<'a>>
-    requires { IsOrdered pipe_rows ordered.now }
-    ensures { WritesAnswerOn O.taken O.faults (PipeChecks name.now variant ordered.now.design.terms) out.old out.new result }
+    requires { IsBoundDesign pipe_rows bound.now }
+    ensures { WritesAnswerOn O.taken O.faults (PipeChecks name.now variant bound.now.ordered.design.terms) out.old out.new result }
 {
-    match pipe_verdict(alloc, name, variant, ordered) {
+    match pipe_verdict(alloc, name, variant, bound) {
         Ok(PipeVerdictText::Yes(text)) => write_answer(0, text.as_slice(), out),
         Ok(PipeVerdictText::No(text)) => write_answer(1, text.as_slice(), out),
         Err(stop) => Err(stop),
@@ -90,9 +91,9 @@ pub fn check_pipe_file<'a, F: Files, O: Sink>(
     ensures { FollowsPlanOver F.told F.faults O.taken O.faults (check_pipe_plan name.now variant)
         files.old files.new out.old out.new result }
 {
-    let ordered = match pipe_file(alloc, name, files) {
-        Ok(ordered) => ordered,
+    let bound = match pipe_file(alloc, name, files) {
+        Ok(bound) => bound,
         Err(stop) => return Err(stop),
     };
-    say_pipe(alloc, name, variant, &ordered, out)
+    say_pipe(alloc, name, variant, &bound, out)
 }

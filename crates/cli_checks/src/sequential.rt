@@ -1,18 +1,18 @@
 //! Verdicts on designs for the sequential datapaths, and the text of a `no`.
 ghost use Rattle.std.specs.Prelude.{◌≡◌, ◌≤◌, Err, IfErr, IfOk, OnErr, length};
 ghost use Rattle.dp_signals.specs.SeqTable.{seq_rows};
+ghost use Rattle.hcl_types.specs.Tables.{IsBoundDesign};
 ghost use Rattle.seq_plus.specs.PlusTable.{plus_rows};
 ghost use Rattle.ctl_verdicts.specs.ObligationSet.{IsFault};
 ghost use Rattle.cli_checks.specs.Sequential.{IsDecided, no_text};
 ghost use Rattle.cli_plans.specs.Datapaths.{rows_of};
-ghost use Rattle.cli_plans.specs.Designs.{IsOrdered};
 ghost use Rattle.cli_plans.specs.declared.datapath.Datapath.TheVariants.{Plus as OnPlus, Seq as OnSeq};
 ghost use Rattle.cli_plans.specs.declared.stop_reason.StopReason.TheVariants.{Memory as WantOfMemory};
 
-use cli_plans::{Datapath, OrderedDesign, StopReason};
+use cli_plans::{Datapath, StopReason};
 use control_check::{CheckFault, Verdict, check_seq};
 use ctl_atoms::Atom;
-use hcl_types::Row;
+use hcl_types::{BoundDesign, Row};
 use nets::Valuation;
 use seq_plus_check::{Plain16, check_plus};
 use std::alloc::Global;
@@ -32,13 +32,13 @@ pub struct SeqRejection {
 fn decide_seq(
     alloc: Global,
     variant: Variant,
-    ordered: &OrderedDesign,
+    bound: &BoundDesign,
 ) -> Result<Option<SeqRejection>, CheckFault>
-    requires { IsOrdered seq_rows ordered.now }
-    ensures decided { IfOk result (IsDecided OnSeq variant ordered.now.design.terms) }
-    ensures fault { IfErr result (IsFault seq_rows ordered.now.design.terms) }
+    requires { IsBoundDesign seq_rows bound.now }
+    ensures decided { IfOk result (IsDecided OnSeq variant bound.now.ordered.design.terms) }
+    ensures fault { IfErr result (IsFault seq_rows bound.now.ordered.design.terms) }
 {
-    match check_seq(alloc, variant, &ordered.design, &ordered.order) {
+    match check_seq(alloc, variant, &bound.ordered) {
         Ok(Verdict::Yes(_)) => Ok(None),
         Ok(
             Verdict::No {
@@ -59,13 +59,13 @@ fn decide_seq(
 fn decide_plus(
     alloc: Global,
     variant: Variant,
-    ordered: &OrderedDesign,
+    bound: &BoundDesign,
 ) -> Result<Option<SeqRejection>, CheckFault>
-    requires { IsOrdered plus_rows ordered.now }
-    ensures decided { IfOk result (IsDecided OnPlus variant ordered.now.design.terms) }
-    ensures fault { IfErr result (IsFault plus_rows ordered.now.design.terms) }
+    requires { IsBoundDesign plus_rows bound.now }
+    ensures decided { IfOk result (IsDecided OnPlus variant bound.now.ordered.design.terms) }
+    ensures fault { IfErr result (IsFault plus_rows bound.now.ordered.design.terms) }
 {
-    match check_plus(alloc, variant, &ordered.design, &ordered.order) {
+    match check_plus(alloc, variant, &bound.ordered) {
         Ok(Plain16::Yes) => Ok(None),
         Ok(
             Plain16::No {
@@ -87,15 +87,15 @@ pub fn decided(
     alloc: Global,
     which: Datapath,
     variant: Variant,
-    ordered: &OrderedDesign,
+    bound: &BoundDesign,
 ) -> Result<Option<SeqRejection>, CheckFault>
-    requires { IsOrdered (rows_of which) ordered.now }
-    ensures decided { IfOk result (IsDecided which variant ordered.now.design.terms) }
-    ensures fault { IfErr result (IsFault (rows_of which) ordered.now.design.terms) }
+    requires { IsBoundDesign (rows_of which) bound.now }
+    ensures decided { IfOk result (IsDecided which variant bound.now.ordered.design.terms) }
+    ensures fault { IfErr result (IsFault (rows_of which) bound.now.ordered.design.terms) }
 {
     match which {
-        Datapath::Seq => decide_seq(alloc, variant, ordered),
-        Datapath::Plus => decide_plus(alloc, variant, ordered),
+        Datapath::Seq => decide_seq(alloc, variant, bound),
+        Datapath::Plus => decide_plus(alloc, variant, bound),
     }
 }
 
@@ -123,10 +123,10 @@ fn refusal(
 pub fn seq_text<'a>(
     alloc: Global,
     which: Datapath,
-    ordered: &OrderedDesign,
+    bound: &BoundDesign,
     denial: &SeqRejection,
 ) -> Result<Vec<u8>, StopReason<'a>>
-    requires ordered { IsOrdered (rows_of which) ordered.now }
+    requires ordered { IsBoundDesign (rows_of which) bound.now }
     requires few { length denial.now.atoms ≤ 64 }
     ensures text { IfOk result (λ text. text.items ≡ no_text which denial.now.rule denial.now.valuation.bits denial.now.atoms) }
     ensures memory { OnErr result (result ≡ Err WantOfMemory) }
@@ -134,7 +134,7 @@ pub fn seq_text<'a>(
     match refusal(
         alloc,
         which,
-        ordered.table.rows.items(),
+        bound.table.rows.items(),
         denial.rule,
         &denial.valuation,
         denial.atoms.items(),

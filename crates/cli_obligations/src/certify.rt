@@ -1,15 +1,16 @@
 //! `check pipe` with `--cert`: the verdict on the design of an HCL file, with a certificate if it is accepted.
 ghost use Rattle.std.specs.Prelude.{◌≡◌, IfErr, IfOk, List, ℕ};
 ghost use Rattle.dp_signals.specs.PipeTable.{pipe_rows};
+ghost use Rattle.hcl_types.specs.Tables.{IsBoundDesign};
 ghost use Rattle.cli_obligations.specs.Answers.{certify_pipe_plan};
 ghost use Rattle.cli_obligations.specs.Certified.{IsCertificateOrNo, PipeCertifies};
 ghost use Rattle.cli_verdicts.specs.Verdicts.{RefusesControl};
-ghost use Rattle.cli_plans.specs.Designs.{IsOrdered};
 ghost use Rattle.cli_plans.specs.PlanFollowing.{FollowsPlanOver, RefusesWith, WritesAnswerOn};
 
 use cert_log::certify;
-use cli_plans::{OrderedDesign, StopReason, pipe_file, write_answer};
+use cli_plans::{StopReason, pipe_file, write_answer};
 use cli_verdicts::{PipeDecision, PipeVerdictText, pipe_decision};
+use hcl_types::BoundDesign;
 use std::alloc::Global;
 use wb_io::{Files, Sink};
 use y86_base::Variant;
@@ -20,15 +21,15 @@ fn certificate<'a>(
     alloc: Global,
     name: &'a str,
     variant: Variant,
-    ordered: &OrderedDesign,
+    bound: &BoundDesign,
 ) -> Result<PipeVerdictText, StopReason<'a>>
-    requires { IsOrdered pipe_rows ordered.now }
-    ensures text { IfOk result (IsCertificateOrNo variant ordered.now.design.terms) }
-    ensures refused { IfErr result (RefusesWith (RefusesControl name.now pipe_rows ordered.now.design.terms)) }
+    requires { IsBoundDesign pipe_rows bound.now }
+    ensures text { IfOk result (IsCertificateOrNo variant bound.now.ordered.design.terms) }
+    ensures refused { IfErr result (RefusesWith (RefusesControl name.now pipe_rows bound.now.ordered.design.terms)) }
 {
-    match pipe_decision(alloc, name, variant, ordered) {
+    match pipe_decision(alloc, name, variant, bound) {
         Ok(PipeDecision::Yes(settings)) => {
-            match certify(alloc, variant, &ordered.design, &ordered.order, settings) {
+            match certify(alloc, variant, &bound.ordered, settings) {
                 Ok(text) => Ok(PipeVerdictText::Yes(text)),
                 Err(_) => Err(StopReason::Memory),
             }
@@ -44,13 +45,13 @@ fn say_certificate<'a, O: Sink>(
     alloc: Global,
     name: &'a str,
     variant: Variant,
-    ordered: &OrderedDesign,
+    bound: &BoundDesign,
     out: &mut O,
 ) -> Result<u8, StopReason<'a>>
-    requires { IsOrdered pipe_rows ordered.now }
-    ensures { WritesAnswerOn O.taken O.faults (PipeCertifies name.now variant ordered.now.design.terms) out.old out.new result }
+    requires { IsBoundDesign pipe_rows bound.now }
+    ensures { WritesAnswerOn O.taken O.faults (PipeCertifies name.now variant bound.now.ordered.design.terms) out.old out.new result }
 {
-    match certificate(alloc, name, variant, ordered) {
+    match certificate(alloc, name, variant, bound) {
         Ok(PipeVerdictText::Yes(text)) => write_answer(0, text.as_slice(), out),
         Ok(PipeVerdictText::No(text)) => write_answer(1, text.as_slice(), out),
         Err(stop) => Err(stop),
@@ -69,9 +70,9 @@ pub fn certify_pipe_file<'a, F: Files, O: Sink>(
     ensures { FollowsPlanOver F.told F.faults O.taken O.faults (certify_pipe_plan name.now variant)
         files.old files.new out.old out.new result }
 {
-    let ordered = match pipe_file(alloc, name, files) {
-        Ok(ordered) => ordered,
+    let bound = match pipe_file(alloc, name, files) {
+        Ok(bound) => bound,
         Err(stop) => return Err(stop),
     };
-    say_certificate(alloc, name, variant, &ordered, out)
+    say_certificate(alloc, name, variant, &bound, out)
 }

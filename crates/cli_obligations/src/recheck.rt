@@ -2,17 +2,18 @@
 ghost use Rattle.std.specs.Prelude.{◌≡◌, List, ℕ};
 ghost use Rattle.ctl_atoms.specs.Atoms.{AreAtoms};
 ghost use Rattle.dp_signals.specs.PipeTable.{pipe_rows};
+ghost use Rattle.hcl_types.specs.Tables.{IsBoundDesign};
 ghost use Rattle.cert_log.specs.Files.{HasControlValues};
 ghost use Rattle.cli_obligations.specs.Answers.{certificate_plan, recheck_plan};
 ghost use Rattle.cli_obligations.specs.Certified.{Rechecks, IsCertStop, cert_reason};
 ghost use Rattle.cli_verdicts.specs.Verdicts.{RefusesControl};
-ghost use Rattle.cli_plans.specs.Designs.{IsOrdered};
 ghost use Rattle.cli_plans.specs.PlanFollowing.{FollowsPlanOver, IsStageResultIn, WritesAnswerOn};
 
 use cert_log::{CertError, CertWhy, holds_line, recheck_file};
-use cli_plans::{InputFault, OrderedDesign, StopReason, pipe_file, read_file, write_answer};
+use cli_plans::{InputFault, StopReason, pipe_file, read_file, write_answer};
 use cli_verdicts::control_stop;
 use ctl_atoms::{Atom, CtlFault, atoms};
+use hcl_types::BoundDesign;
 use std::alloc::Global;
 use wb_io::{Files, Sink};
 use y86_base::Variant;
@@ -55,15 +56,15 @@ fn cert_stop<'a>(name: &'a str, error: CertError) -> StopReason<'a>
 fn pipe_atoms<'a>(
     alloc: Global,
     name: &'a str,
-    ordered: &OrderedDesign,
+    bound: &BoundDesign,
 ) -> Result<Vec<Atom>, StopReason<'a>>
-    requires { IsOrdered pipe_rows ordered.now }
-    ensures { IsStageResultIn (AreAtoms pipe_rows ordered.now.design.terms) (RefusesControl name.now pipe_rows ordered.now.design.terms) (λ list. list.items) result }
+    requires { IsBoundDesign pipe_rows bound.now }
+    ensures { IsStageResultIn (AreAtoms pipe_rows bound.now.ordered.design.terms) (RefusesControl name.now pipe_rows bound.now.ordered.design.terms) (λ list. list.items) result }
 {
-    match atoms(alloc, &ordered.design, &ordered.table, &ordered.order) {
+    match atoms(alloc, &bound.ordered, &bound.table) {
         Ok(list) => Ok(list),
         Err(CtlFault::Memory) => Err(StopReason::Memory),
-        Err(fault) => Err(control_stop(alloc, name, ordered, fault)),
+        Err(fault) => Err(control_stop(alloc, name, bound, fault)),
     }
 }
 
@@ -73,15 +74,15 @@ fn say_recheck<'a, O: Sink>(
     alloc: Global,
     cert: &'a str,
     variant: Variant,
-    ordered: &OrderedDesign,
+    bound: &BoundDesign,
     text: &[u8],
     out: &mut O,
 ) -> Result<u8, StopReason<'a>>
-    requires ordered { IsOrdered pipe_rows ordered.now }
-    requires atoms { HasControlValues ordered.now.design.terms }
-    ensures { WritesAnswerOn O.taken O.faults (Rechecks cert.now variant ordered.now.design.terms text.now) out.old out.new result }
+    requires ordered { IsBoundDesign pipe_rows bound.now }
+    requires atoms { HasControlValues bound.now.ordered.design.terms }
+    ensures { WritesAnswerOn O.taken O.faults (Rechecks cert.now variant bound.now.ordered.design.terms text.now) out.old out.new result }
 {
-    match recheck_file(alloc, variant, &ordered.design, &ordered.order, text) {
+    match recheck_file(alloc, variant, &bound.ordered, text) {
         Ok(settings) => match holds_line(alloc, &settings) {
             Ok(line) => write_answer(0, line.as_slice(), out),
             Err(_) => Err(StopReason::Memory),
@@ -95,20 +96,20 @@ fn recheck_text<'a, F: Files, O: Sink>(
     alloc: Global,
     cert: &'a str,
     variant: Variant,
-    ordered: &OrderedDesign,
+    bound: &BoundDesign,
     files: &mut F,
     out: &mut O,
 ) -> Result<u8, StopReason<'a>>
-    requires ordered { IsOrdered pipe_rows ordered.now }
-    requires atoms { HasControlValues ordered.now.design.terms }
-    ensures { FollowsPlanOver F.told F.faults O.taken O.faults (certificate_plan cert.now variant ordered.now.design.terms)
+    requires ordered { IsBoundDesign pipe_rows bound.now }
+    requires atoms { HasControlValues bound.now.ordered.design.terms }
+    ensures { FollowsPlanOver F.told F.faults O.taken O.faults (certificate_plan cert.now variant bound.now.ordered.design.terms)
         files.old files.new out.old out.new result }
 {
     let text = match read_file(alloc, cert, CERT_LIMIT, files) {
         Ok(text) => text,
         Err(stop) => return Err(stop),
     };
-    say_recheck(alloc, cert, variant, ordered, text.as_slice(), out)
+    say_recheck(alloc, cert, variant, bound, text.as_slice(), out)
 }
 
 /// `recheck`: checks a certificate of the design of an HCL file, without deciding again.
@@ -123,12 +124,12 @@ pub fn recheck_certificate<'a, F: Files, O: Sink>(
     ensures { FollowsPlanOver F.told F.faults O.taken O.faults (recheck_plan name.now cert.now variant)
         files.old files.new out.old out.new result }
 {
-    let ordered = match pipe_file(alloc, name, files) {
-        Ok(ordered) => ordered,
+    let bound = match pipe_file(alloc, name, files) {
+        Ok(bound) => bound,
         Err(stop) => return Err(stop),
     };
-    match pipe_atoms(alloc, name, &ordered) {
-        Ok(_) => recheck_text(alloc, cert, variant, &ordered, files, out),
+    match pipe_atoms(alloc, name, &bound) {
+        Ok(_) => recheck_text(alloc, cert, variant, &bound, files, out),
         Err(stop) => Err(stop),
     }
 }

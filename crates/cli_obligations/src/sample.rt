@@ -1,16 +1,17 @@
 //! `sample`: tries drawn control valuations against the obligations of an HCL file for PIPE.
 ghost use Rattle.std.specs.Prelude.{◌≡◌, ◌≤◌, IfErr, IfOk, List, ℕ};
 ghost use Rattle.dp_signals.specs.PipeTable.{pipe_rows};
+ghost use Rattle.hcl_types.specs.Tables.{IsBoundDesign};
 ghost use Rattle.cli_obligations.specs.Answers.{sample_plan};
 ghost use Rattle.cli_verdicts.specs.Verdicts.{RefusesControl};
-ghost use Rattle.cli_plans.specs.Designs.{IsOrdered};
 ghost use Rattle.cli_plans.specs.PlanFollowing.{FollowsPlanOver, RefusesWith, WritesAnswerOn};
 ghost use Rattle.cli_plans.specs.Plan.{done};
 ghost use Rattle.cli_obligations.specs.Samples.{IsSampled, SampleAnswers, found_line, none_line};
 
-use cli_plans::{OrderedDesign, StopReason, pipe_file};
+use cli_plans::{StopReason, pipe_file};
 use cli_verdicts::control_stop;
 use control_check::{CheckFault, file_rules};
+use hcl_types::BoundDesign;
 use lane_eval::{Found, first_false};
 use std::alloc::Global;
 use wb_io::{Files, Sink, put_pieces};
@@ -33,18 +34,18 @@ pub struct SampleRequest<'a> {
 fn sampled<'a>(
     alloc: Global,
     request: SampleRequest<'a>,
-    ordered: &OrderedDesign,
+    bound: &BoundDesign,
 ) -> Result<Option<Found>, StopReason<'a>>
-    requires { IsOrdered pipe_rows ordered.now }
-    ensures found { IfOk result (IsSampled request.entry.variant ordered.now.design.terms request.entry.seed request.entry.count) }
-    ensures refused { IfErr result (RefusesWith (RefusesControl request.entry.hcl.now pipe_rows ordered.now.design.terms)) }
+    requires { IsBoundDesign pipe_rows bound.now }
+    ensures found { IfOk result (IsSampled request.entry.variant bound.now.ordered.design.terms request.entry.seed request.entry.count) }
+    ensures refused { IfErr result (RefusesWith (RefusesControl request.entry.hcl.now pipe_rows bound.now.ordered.design.terms)) }
 {
-    match file_rules(alloc, request.variant, &ordered.design, &ordered.order) {
+    match file_rules(alloc, request.variant, &bound.ordered) {
         Ok(rules) => match first_false(alloc, &rules, request.seed, request.count) {
             Ok(found) => Ok(found),
             Err(Memory) => Err(StopReason::Memory),
         },
-        Err(CheckFault::Ctl(fault)) => Err(control_stop(alloc, request.hcl, ordered, fault)),
+        Err(CheckFault::Ctl(fault)) => Err(control_stop(alloc, request.hcl, bound, fault)),
         Err(CheckFault::Memory) => Err(StopReason::Memory),
     }
 }
@@ -82,14 +83,14 @@ fn say_found<'a, O: Sink>(found: Found, out: &mut O) -> Result<u8, StopReason<'a
 fn say_sample<'a, O: Sink>(
     alloc: Global,
     request: SampleRequest<'a>,
-    ordered: &OrderedDesign,
+    bound: &BoundDesign,
     out: &mut O,
 ) -> Result<u8, StopReason<'a>>
-    requires { IsOrdered pipe_rows ordered.now }
-    ensures { WritesAnswerOn O.taken O.faults (SampleAnswers request.entry.hcl.now request.entry.variant ordered.now.design.terms request.entry.seed request.entry.count)
+    requires { IsBoundDesign pipe_rows bound.now }
+    ensures { WritesAnswerOn O.taken O.faults (SampleAnswers request.entry.hcl.now request.entry.variant bound.now.ordered.design.terms request.entry.seed request.entry.count)
         out.old out.new result }
 {
-    match sampled(alloc, request, ordered) {
+    match sampled(alloc, request, bound) {
         Ok(None) => say_none(request.count, out),
         Ok(Some(found)) => say_found(found, out),
         Err(stop) => Err(stop),
@@ -106,9 +107,9 @@ pub fn sample_file<'a, F: Files, O: Sink>(
     ensures { FollowsPlanOver F.told F.faults O.taken O.faults (sample_plan request.entry.hcl.now request.entry.seed request.entry.count request.entry.variant)
         files.old files.new out.old out.new result }
 {
-    let ordered = match pipe_file(alloc, request.hcl, files) {
-        Ok(ordered) => ordered,
+    let bound = match pipe_file(alloc, request.hcl, files) {
+        Ok(bound) => bound,
         Err(stop) => return Err(stop),
     };
-    say_sample(alloc, request, &ordered, out)
+    say_sample(alloc, request, &bound, out)
 }

@@ -5,14 +5,13 @@ use Rattle.hcl_read.specs.declared.fault.HclFault.{HclFault}
 use Rattle.hcl_tree.specs.declared.tree.File.{File}
 use Rattle.hcl_binding.specs.Binding.{bound}
 use Rattle.hcl_types.specs.Equations.{needs_of}
-use Rattle.hcl_types.specs.Tables.{IsBound, IsOrderOf, IsSound, needs, row_names}
+use Rattle.hcl_types.specs.Tables.{needs, row_names}
 use Rattle.hcl_binding.specs.declared.fault.BindFault.{BindFault}
 use Rattle.hcl_types.specs.declared.table.Row.{Row}
 use Rattle.hcl_types.specs.declared.term.Term.{Term}
 use Rattle.hcl_order.specs.Dependence.{Depends, FirstCycle}
 use Rattle.cli_plans.specs.Lines.{bind_fault_line, cycle_line, hcl_fault_line, names_at}
 use Rattle.cli_plans.specs.Plan.{Answer, refused}
-use Rattle.cli_plans.specs.declared.design.OrderedDesign.{OrderedDesign}
 
 -- the refusal of an HCL text with a fault
 abbrev pub RefusesHcl : List ℕ → List ℕ → Answer → Type 0
@@ -24,13 +23,6 @@ pub record IsDesign (rows : List Row) (text : List ℕ) (terms : List Term) : Ty
   pub reads : ReadsAs text file
   pub binds : bound rows file.items ≡ Ok terms
   pub acyclic : (n : ℕ) → Depends (needs_of (needs rows terms)) n n → ⊥
-
--- a table with these rows, a design over it, and an order of the design's signals
-pub record IsOrdered (rows : List Row) (ordered : OrderedDesign) : Type 0 where
-  pub table : ordered.table.rows ≡ rows
-  pub sound : IsSound rows
-  pub bound : IsBound rows ordered.design.terms
-  pub order : IsOrderOf rows ordered.design.terms ordered.order.ids
 
 -- the refusal of a text that can't be bound
 pub record RefusesBinding (name : List ℕ) (rows : List Row) (text : List ℕ) (a : Answer) : Type 0 where

@@ -2,11 +2,11 @@
 //! messages.
 ghost use Rattle.std.specs.Prelude.{◌≡◌, ◌≢◌, ◌++◌, ◌∷◌, [], Err, List, ℕ, IfOk, OnErr, OnOk, map};
 ghost use Rattle.dp_signals.specs.PipeTable.{pipe_rows};
-ghost use Rattle.hcl_types.specs.Tables.{IsSound, row_names};
+ghost use Rattle.hcl_types.specs.Tables.{IsBoundDesign, IsSound, row_names};
 ghost use Rattle.hcl_binding.specs.declared.fault.BindWhy.TheVariants.{Memory as OutOfMemory};
 ghost use Rattle.cli_plans.specs.Stages.{hcl_limit};
 ghost use Rattle.cli_plans.specs.Datapaths.{rows_of};
-ghost use Rattle.cli_plans.specs.Designs.{IsDesign, IsOrdered, RefusesDesign};
+ghost use Rattle.cli_plans.specs.Designs.{IsDesign, RefusesDesign};
 ghost use Rattle.cli_plans.specs.PlanFollowing.{IsStageResultIn, IsReadResultIn, RefusesWith, files_state};
 ghost use Rattle.cli_plans.specs.Lines as text;
 ghost use Rattle.cli_plans.specs.Plan.{refused};
@@ -18,18 +18,10 @@ use crate::stop_reason::{InputFault, StopReason};
 use dp_signals::{law_of_tables, pipe_table, seq_table};
 use hcl_binding::{BindFault, BindWhy, bind};
 use hcl_order::{OrderFault, order};
-use hcl_types::{Design, Order, Row, Table};
+use hcl_types::{BoundDesign, OrderedDesign, Row, Table};
 use seq_plus::{law_of_table, plus_table};
 use std::alloc::{AllocError, Global};
 use wb_io::Files;
-
-/// A table, a design over it, and an order of the design's signals.
-#[derive(Drop)]
-pub struct OrderedDesign {
-    pub table: Table,
-    pub design: Design,
-    pub order: Order,
-}
 
 /// The name of a reason of binding.
 fn reason(why: BindWhy) -> &'static [u8]
@@ -128,10 +120,10 @@ pub fn ordered_design<'a>(
     name: &'a str,
     source: &[u8],
     table: Table,
-) -> Result<OrderedDesign, StopReason<'a>>
+) -> Result<BoundDesign, StopReason<'a>>
     requires { IsSound table.rows }
-    ensures design { IsStageResultIn (IsDesign table.rows source.now) (RefusesDesign name.now table.rows source.now) (λ ordered. ordered.design.terms) result }
-    ensures ordered { IfOk result (IsOrdered table.rows) }
+    ensures design { IsStageResultIn (IsDesign table.rows source.now) (RefusesDesign name.now table.rows source.now) (λ bound. bound.ordered.design.terms) result }
+    ensures ordered { IfOk result (IsBoundDesign table.rows) }
 {
     let file = match read_hcl(alloc, name, source) {
         Ok(file) => file,
@@ -142,10 +134,9 @@ pub fn ordered_design<'a>(
         Err(fault) => return Err(bind_stop(alloc, name, fault)),
     };
     match order(alloc, &design, &table) {
-        Ok(order) => Ok(OrderedDesign {
+        Ok(order) => Ok(BoundDesign {
             table,
-            design,
-            order,
+            ordered: OrderedDesign { design, order },
         }),
         Err(OrderFault::Cycle(ids)) => {
             Err(cycle_stop(alloc, name, table.rows.items(), ids.items()))
@@ -179,9 +170,9 @@ pub fn seq_design<'a>(
     which: Datapath,
     name: &'a str,
     source: &[u8],
-) -> Result<OrderedDesign, StopReason<'a>>
-    ensures design { IsStageResultIn (IsDesign (rows_of which) source.now) (RefusesDesign name.now (rows_of which) source.now) (λ ordered. ordered.design.terms) result }
-    ensures ordered { IfOk result (IsOrdered (rows_of which)) }
+) -> Result<BoundDesign, StopReason<'a>>
+    ensures design { IsStageResultIn (IsDesign (rows_of which) source.now) (RefusesDesign name.now (rows_of which) source.now) (λ bound. bound.ordered.design.terms) result }
+    ensures ordered { IfOk result (IsBoundDesign (rows_of which)) }
 {
     let table = match table_of(alloc, which) {
         Ok(table) => table,
@@ -195,9 +186,9 @@ pub fn pipe_design<'a>(
     alloc: Global,
     name: &'a str,
     source: &[u8],
-) -> Result<OrderedDesign, StopReason<'a>>
-    ensures design { IsStageResultIn (IsDesign pipe_rows source.now) (RefusesDesign name.now pipe_rows source.now) (λ ordered. ordered.design.terms) result }
-    ensures ordered { IfOk result (IsOrdered pipe_rows) }
+) -> Result<BoundDesign, StopReason<'a>>
+    ensures design { IsStageResultIn (IsDesign pipe_rows source.now) (RefusesDesign name.now pipe_rows source.now) (λ bound. bound.ordered.design.terms) result }
+    ensures ordered { IfOk result (IsBoundDesign pipe_rows) }
 {
     law_of_tables();
     let Ok(table) = pipe_table(alloc) else {
@@ -212,10 +203,10 @@ pub fn seq_file<'a, F: Files>(
     which: Datapath,
     name: &'a str,
     files: &mut F,
-) -> Result<OrderedDesign, StopReason<'a>>
-    ensures design { IsReadResultIn name.now hcl_limit (IsDesign (rows_of which)) (RefusesDesign name.now (rows_of which)) (λ ordered. ordered.design.terms)
+) -> Result<BoundDesign, StopReason<'a>>
+    ensures design { IsReadResultIn name.now hcl_limit (IsDesign (rows_of which)) (RefusesDesign name.now (rows_of which)) (λ bound. bound.ordered.design.terms)
         (files_state (F.told files.old) (F.faults files.old)) (files_state (F.told files.new) (F.faults files.new)) result }
-    ensures ordered { IfOk result (IsOrdered (rows_of which)) }
+    ensures ordered { IfOk result (IsBoundDesign (rows_of which)) }
 {
     match read_file(alloc, name, HCL_LIMIT, files) {
         Ok(source) => seq_design(alloc, which, name, source.as_slice()),
@@ -228,10 +219,10 @@ pub fn pipe_file<'a, F: Files>(
     alloc: Global,
     name: &'a str,
     files: &mut F,
-) -> Result<OrderedDesign, StopReason<'a>>
-    ensures design { IsReadResultIn name.now hcl_limit (IsDesign pipe_rows) (RefusesDesign name.now pipe_rows) (λ ordered. ordered.design.terms)
+) -> Result<BoundDesign, StopReason<'a>>
+    ensures design { IsReadResultIn name.now hcl_limit (IsDesign pipe_rows) (RefusesDesign name.now pipe_rows) (λ bound. bound.ordered.design.terms)
         (files_state (F.told files.old) (F.faults files.old)) (files_state (F.told files.new) (F.faults files.new)) result }
-    ensures ordered { IfOk result (IsOrdered pipe_rows) }
+    ensures ordered { IfOk result (IsBoundDesign pipe_rows) }
 {
     match read_file(alloc, name, HCL_LIMIT, files) {
         Ok(source) => pipe_design(alloc, name, source.as_slice()),

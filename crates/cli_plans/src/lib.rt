@@ -11,7 +11,7 @@ mod stop_reason;
 
 pub use crate::calls::{Status, report_stop, unreadable, words_behind};
 pub use crate::datapath::Datapath;
-pub use crate::design::{OrderedDesign, all_names, pipe_design, pipe_file, seq_file};
+pub use crate::design::{all_names, pipe_design, pipe_file, seq_file};
 pub use crate::output::write_answer;
 pub use crate::stages::{FILE_LIMIT, HCL_LIMIT, load_image, read_file, read_hcl, status};
 pub use crate::stop_reason::{InputFault, StopReason};

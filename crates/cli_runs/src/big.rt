@@ -1,14 +1,15 @@
 //! `big`: runs a generated program by the instructions and on PIPE under an HCL file, and compares the reports.
 ghost use Rattle.std.specs.Prelude.{◌≡◌, ◌≤◌};
 ghost use Rattle.dp_signals.specs.PipeTable.{pipe_rows};
+ghost use Rattle.hcl_types.specs.Tables.{IsBoundDesign};
 ghost use Rattle.wb_io.specs.Causes.{CountsFaults};
 ghost use Rattle.wb_io.specs.Sinks.{AppendsText};
 ghost use Rattle.cli_runs.specs.Answers.{big_plan};
 ghost use Rattle.cli_runs.specs.Big.{BigAnswers, big_line, big_status};
-ghost use Rattle.cli_plans.specs.Designs.{IsOrdered};
 ghost use Rattle.cli_plans.specs.PlanFollowing.{FollowsPlanOver, WritesAnswerOn};
 
-use cli_plans::{OrderedDesign, StopReason, pipe_file};
+use cli_plans::{StopReason, pipe_file};
+use hcl_types::BoundDesign;
 use prog_cosim::{CosimResult, cosimulate};
 use std::alloc::Global;
 use wb_io::{Failed, Files, Sink, put_pieces};
@@ -54,16 +55,16 @@ fn say_big<'a, O: Sink>(
     alloc: Global,
     n: u64,
     variant: Variant,
-    ordered: OrderedDesign,
+    bound: BoundDesign,
     out: &mut O,
 ) -> Result<u8, StopReason<'a>>
     requires least { 1 ≤ n }
     requires most { n ≤ 100000 }
-    requires ordered { IsOrdered pipe_rows ordered }
-    ensures { WritesAnswerOn O.taken O.faults (BigAnswers variant ordered.design.terms n) out.old out.new result }
+    requires ordered { IsBoundDesign pipe_rows bound }
+    ensures { WritesAnswerOn O.taken O.faults (BigAnswers variant bound.ordered.design.terms n) out.old out.new result }
 {
-    let OrderedDesign { design, order, .. } = ordered;
-    let both = match cosimulate(alloc, variant, design, order, n) {
+    let BoundDesign { ordered, .. } = bound;
+    let both = match cosimulate(alloc, variant, ordered, n) {
         Ok(both) => both,
         Err(_) => return Err(StopReason::Memory),
     };
@@ -87,9 +88,9 @@ pub fn big_file<'a, F: Files, O: Sink>(
     ensures { FollowsPlanOver F.told F.faults O.taken O.faults (big_plan n name.now variant)
         files.old files.new out.old out.new result }
 {
-    let ordered = match pipe_file(alloc, name, files) {
-        Ok(ordered) => ordered,
+    let bound = match pipe_file(alloc, name, files) {
+        Ok(bound) => bound,
         Err(stop) => return Err(stop),
     };
-    say_big(alloc, n, variant, ordered, out)
+    say_big(alloc, n, variant, bound, out)
 }

@@ -1,22 +1,21 @@
 //! `psim`: runs an object file on PIPE under an HCL file.
 ghost use Rattle.std.specs.Prelude.{◌≡◌, ◌<◌, ◌≤◌, ◌^◌, ◌++◌, List, ℕ, length};
 ghost use Rattle.dp_signals.specs.PipeTable.{pipe_rows};
+ghost use Rattle.hcl_types.specs.Tables.{IsBoundDesign};
 ghost use Rattle.wb_io.specs.Causes.{CountsFaults};
 ghost use Rattle.wb_io.specs.Sinks.{AppendsText};
 ghost use Rattle.y86_base.specs.Image.{IsSize};
 ghost use Rattle.cli_runs.specs.Answers.{PipeAnswers, checked_plan, pipe_plan, psim_plan};
-ghost use Rattle.cli_plans.specs.Designs.{IsOrdered};
 ghost use Rattle.cli_plans.specs.PlanFollowing.{FollowsPlanOver, WritesAnswerOn};
 ghost use Rattle.cli_runs.specs.PipeRuns.{ran_line};
 ghost use Rattle.yis_run.specs.Report as text;
 
 use crate::request::PipeRequest;
-use cli_plans::{
-    FILE_LIMIT, OrderedDesign, StopReason, load_image, pipe_file, read_file, status, write_answer,
-};
+use cli_plans::{FILE_LIMIT, StopReason, load_image, pipe_file, read_file, status, write_answer};
 use cli_verdicts::{PipeVerdictText, pipe_verdict};
 use dp_signals::constant_words;
 use hcl_compile::compile;
+use hcl_types::BoundDesign;
 use pipe_path::Pipe;
 use retire_trace::{Drove, drive};
 use std::alloc::Global;
@@ -61,24 +60,24 @@ fn put_end<O: Sink>(drove: Drove, first: &Image, end: &End<'_>, out: &mut O) -> 
 pub fn run_pipe<'a, O: Sink>(
     alloc: Global,
     request: PipeRequest<'_>,
-    ordered: OrderedDesign,
+    bound: BoundDesign,
     image: Image,
     verdict: &[u8],
     out: &mut O,
 ) -> Result<u8, StopReason<'a>>
-    requires ordered { IsOrdered pipe_rows ordered }
+    requires ordered { IsBoundDesign pipe_rows bound }
     requires limit { request.run.limit < 2 ^ 63 }
-    ensures { WritesAnswerOn O.taken O.faults (PipeAnswers request.entry.run.variant ordered.design.terms request.entry.run.limit request.entry.trace verdict.now image)
+    ensures { WritesAnswerOn O.taken O.faults (PipeAnswers request.entry.run.variant bound.ordered.design.terms request.entry.run.limit request.entry.trace verdict.now image)
         out.old out.new result }
 {
     let Ok(first) = image.copy(alloc) else {
         return Err(StopReason::Memory);
     };
-    let OrderedDesign { design, order, .. } = ordered;
-    let Ok(compiled) = compile(alloc, &design, &order, &constant_words()) else {
+    let BoundDesign { ordered, .. } = bound;
+    let Ok(compiled) = compile(alloc, &ordered, &constant_words()) else {
         return Err(StopReason::Memory);
     };
-    let mut machine = Pipe::new(request.run.variant, design, order, compiled, image);
+    let mut machine = Pipe::new(request.run.variant, ordered, compiled, image);
     match put_all(out, verdict) {
         Ok(()) => {}
         Err(_) => return Err(StopReason::Write),
@@ -98,15 +97,15 @@ pub fn run_pipe<'a, O: Sink>(
 fn run_object<'a, F: Files, O: Sink>(
     alloc: Global,
     request: PipeRequest<'a>,
-    ordered: OrderedDesign,
+    bound: BoundDesign,
     verdict: &[u8],
     files: &mut F,
     out: &mut O,
 ) -> Result<u8, StopReason<'a>>
     requires size { IsSize request.run.memory }
     requires limit { request.run.limit ≤ 100000000 }
-    requires ordered { IsOrdered pipe_rows ordered }
-    ensures { FollowsPlanOver F.told F.faults O.taken O.faults (pipe_plan verdict.now ordered.design.terms
+    requires ordered { IsBoundDesign pipe_rows bound }
+    ensures { FollowsPlanOver F.told F.faults O.taken O.faults (pipe_plan verdict.now bound.ordered.design.terms
         request.entry.run.object.now request.entry.run.memory request.entry.run.limit request.entry.trace request.entry.run.variant)
         files.old files.new out.old out.new result }
 {
@@ -119,7 +118,7 @@ fn run_object<'a, F: Files, O: Sink>(
         Ok(image) => image,
         Err(stop) => return Err(stop),
     };
-    run_pipe(alloc, request, ordered, image, verdict, out)
+    run_pipe(alloc, request, bound, image, verdict, out)
 }
 
 /// Reads an object file and runs it on PIPE under a design. If a check is asked for, the design is checked first; after
@@ -127,23 +126,23 @@ fn run_object<'a, F: Files, O: Sink>(
 fn run_checked<'a, F: Files, O: Sink>(
     alloc: Global,
     request: PipeRequest<'a>,
-    ordered: OrderedDesign,
+    bound: BoundDesign,
     files: &mut F,
     out: &mut O,
 ) -> Result<u8, StopReason<'a>>
     requires size { IsSize request.run.memory }
     requires limit { request.run.limit ≤ 100000000 }
-    requires ordered { IsOrdered pipe_rows ordered }
-    ensures { FollowsPlanOver F.told F.faults O.taken O.faults (checked_plan request.entry.hcl.now ordered.design.terms
+    requires ordered { IsBoundDesign pipe_rows bound }
+    ensures { FollowsPlanOver F.told F.faults O.taken O.faults (checked_plan request.entry.hcl.now bound.ordered.design.terms
         request.entry.run.object.now request.entry.run.memory request.entry.run.limit request.entry.trace request.entry.checked request.entry.run.variant)
         files.old files.new out.old out.new result }
 {
     if !request.checked {
-        return run_object(alloc, request, ordered, b"", files, out);
+        return run_object(alloc, request, bound, b"", files, out);
     }
-    match pipe_verdict(alloc, request.hcl, request.run.variant, &ordered) {
+    match pipe_verdict(alloc, request.hcl, request.run.variant, &bound) {
         Ok(PipeVerdictText::Yes(text)) => {
-            run_object(alloc, request, ordered, text.as_slice(), files, out)
+            run_object(alloc, request, bound, text.as_slice(), files, out)
         }
         Ok(PipeVerdictText::No(text)) => write_answer(1, text.as_slice(), out),
         Err(stop) => Err(stop),
@@ -163,9 +162,9 @@ pub fn psim_file<'a, F: Files, O: Sink>(
         request.entry.run.object.now request.entry.run.memory request.entry.run.limit request.entry.trace request.entry.checked request.entry.run.variant)
         files.old files.new out.old out.new result }
 {
-    let ordered = match pipe_file(alloc, request.hcl, files) {
-        Ok(ordered) => ordered,
+    let bound = match pipe_file(alloc, request.hcl, files) {
+        Ok(bound) => bound,
         Err(stop) => return Err(stop),
     };
-    run_checked(alloc, request, ordered, files, out)
+    run_checked(alloc, request, bound, files, out)
 }

@@ -1,20 +1,19 @@
 //! `ssim`: runs an object file on SEQ under an HCL file.
 ghost use Rattle.std.specs.Prelude.{◌≡◌, List, ℕ};
 ghost use Rattle.dp_signals.specs.SeqTable.{seq_rows};
+ghost use Rattle.hcl_types.specs.Tables.{IsBoundDesign};
 ghost use Rattle.seq_plus.specs.PlusTable.{plus_rows};
 ghost use Rattle.y86_base.specs.Image.{IsSize};
 ghost use Rattle.cli_runs.specs.Answers.{SeqAnswers, seq_plan, ssim_plan};
 ghost use Rattle.cli_plans.specs.Datapaths.{rows_of};
-ghost use Rattle.cli_plans.specs.Designs.{IsOrdered};
 ghost use Rattle.cli_plans.specs.PlanFollowing.{FollowsPlanOver, WritesAnswerOn};
 ghost use Rattle.cli_plans.specs.declared.datapath.Datapath.TheVariants.{Plus as OnPlus, Seq as OnSeq};
 
 use crate::request::RunRequest;
-use cli_plans::{
-    Datapath, FILE_LIMIT, OrderedDesign, StopReason, load_image, read_file, seq_file, status,
-};
+use cli_plans::{Datapath, FILE_LIMIT, StopReason, load_image, read_file, seq_file, status};
 use dp_signals::constant_words;
 use hcl_compile::compile;
+use hcl_types::BoundDesign;
 use seq_path::Seq;
 use seq_plus::Plus;
 use std::alloc::Global;
@@ -28,22 +27,22 @@ use yis_run::{End, report};
 fn run_seq<'a, O: Sink>(
     alloc: Global,
     variant: Variant,
-    ordered: OrderedDesign,
+    bound: BoundDesign,
     image: Image,
     limit: u64,
     out: &mut O,
 ) -> Result<u8, StopReason<'a>>
-    requires { IsOrdered seq_rows ordered }
-    ensures { WritesAnswerOn O.taken O.faults (SeqAnswers OnSeq variant ordered.design.terms limit image) out.old out.new result }
+    requires { IsBoundDesign seq_rows bound }
+    ensures { WritesAnswerOn O.taken O.faults (SeqAnswers OnSeq variant bound.ordered.design.terms limit image) out.old out.new result }
 {
     let Ok(first) = image.copy(alloc) else {
         return Err(StopReason::Memory);
     };
-    let OrderedDesign { design, order, .. } = ordered;
-    let Ok(compiled) = compile(alloc, &design, &order, &constant_words()) else {
+    let BoundDesign { ordered, .. } = bound;
+    let Ok(compiled) = compile(alloc, &ordered, &constant_words()) else {
         return Err(StopReason::Memory);
     };
-    let mut machine = Seq::new(variant, design, order, compiled, image);
+    let mut machine = Seq::new(variant, ordered, compiled, image);
     let ran = seq_path::run(&mut machine, limit);
     let end = End::of(machine.state());
     match report(&first, &end, ran.steps, out) {
@@ -57,22 +56,22 @@ fn run_seq<'a, O: Sink>(
 fn run_plus<'a, O: Sink>(
     alloc: Global,
     variant: Variant,
-    ordered: OrderedDesign,
+    bound: BoundDesign,
     image: Image,
     limit: u64,
     out: &mut O,
 ) -> Result<u8, StopReason<'a>>
-    requires { IsOrdered plus_rows ordered }
-    ensures { WritesAnswerOn O.taken O.faults (SeqAnswers OnPlus variant ordered.design.terms limit image) out.old out.new result }
+    requires { IsBoundDesign plus_rows bound }
+    ensures { WritesAnswerOn O.taken O.faults (SeqAnswers OnPlus variant bound.ordered.design.terms limit image) out.old out.new result }
 {
     let Ok(first) = image.copy(alloc) else {
         return Err(StopReason::Memory);
     };
-    let OrderedDesign { design, order, .. } = ordered;
-    let Ok(compiled) = compile(alloc, &design, &order, &constant_words()) else {
+    let BoundDesign { ordered, .. } = bound;
+    let Ok(compiled) = compile(alloc, &ordered, &constant_words()) else {
         return Err(StopReason::Memory);
     };
-    let mut machine = Plus::new(variant, design, order, compiled, image);
+    let mut machine = Plus::new(variant, ordered, compiled, image);
     let ran = seq_plus::run(&mut machine, limit);
     let pc = machine.pc();
     let end = machine.end(pc);
@@ -87,16 +86,16 @@ fn run_image<'a, O: Sink>(
     alloc: Global,
     which: Datapath,
     request: RunRequest<'_>,
-    ordered: OrderedDesign,
+    bound: BoundDesign,
     image: Image,
     out: &mut O,
 ) -> Result<u8, StopReason<'a>>
-    requires { IsOrdered (rows_of which) ordered }
-    ensures { WritesAnswerOn O.taken O.faults (SeqAnswers which request.entry.variant ordered.design.terms request.entry.limit image) out.old out.new result }
+    requires { IsBoundDesign (rows_of which) bound }
+    ensures { WritesAnswerOn O.taken O.faults (SeqAnswers which request.entry.variant bound.ordered.design.terms request.entry.limit image) out.old out.new result }
 {
     match which {
-        Datapath::Seq => run_seq(alloc, request.variant, ordered, image, request.limit, out),
-        Datapath::Plus => run_plus(alloc, request.variant, ordered, image, request.limit, out),
+        Datapath::Seq => run_seq(alloc, request.variant, bound, image, request.limit, out),
+        Datapath::Plus => run_plus(alloc, request.variant, bound, image, request.limit, out),
     }
 }
 
@@ -105,13 +104,13 @@ fn run_object<'a, F: Files, O: Sink>(
     alloc: Global,
     which: Datapath,
     request: RunRequest<'a>,
-    ordered: OrderedDesign,
+    bound: BoundDesign,
     files: &mut F,
     out: &mut O,
 ) -> Result<u8, StopReason<'a>>
     requires size { IsSize request.memory }
-    requires ordered { IsOrdered (rows_of which) ordered }
-    ensures { FollowsPlanOver F.told F.faults O.taken O.faults (seq_plan which ordered.design.terms request.entry.object.now request.entry.memory request.entry.limit request.entry.variant)
+    requires ordered { IsBoundDesign (rows_of which) bound }
+    ensures { FollowsPlanOver F.told F.faults O.taken O.faults (seq_plan which bound.ordered.design.terms request.entry.object.now request.entry.memory request.entry.limit request.entry.variant)
         files.old files.new out.old out.new result }
 {
     let bytes = match read_file(alloc, request.object, FILE_LIMIT, files) {
@@ -122,7 +121,7 @@ fn run_object<'a, F: Files, O: Sink>(
         Ok(image) => image,
         Err(stop) => return Err(stop),
     };
-    run_image(alloc, which, request, ordered, image, out)
+    run_image(alloc, which, request, bound, image, out)
 }
 
 /// `ssim` and `ssimp`: runs an object file on SEQ or SEQ+ under an HCL file.
@@ -138,9 +137,9 @@ pub fn ssim_file<'a, F: Files, O: Sink>(
     ensures { FollowsPlanOver F.told F.faults O.taken O.faults (ssim_plan which hcl.now request.entry.object.now request.entry.memory request.entry.limit request.entry.variant)
         files.old files.new out.old out.new result }
 {
-    let ordered = match seq_file(alloc, which, hcl, files) {
-        Ok(ordered) => ordered,
+    let bound = match seq_file(alloc, which, hcl, files) {
+        Ok(bound) => bound,
         Err(stop) => return Err(stop),
     };
-    run_object(alloc, which, request, ordered, files, out)
+    run_object(alloc, which, request, bound, files, out)
 }

@@ -3,17 +3,17 @@ ghost use Rattle.std.specs.Prelude.{◌≡◌, ◌≢◌, ◌≤◌, Err, IfErr,
 ghost use Rattle.ctl_atoms.specs.Atoms.{IsCtlFault};
 ghost use Rattle.ctl_atoms.specs.declared.fault.CtlFault.TheVariants as cause;
 ghost use Rattle.dp_signals.specs.PipeTable.{pipe_rows};
-ghost use Rattle.hcl_types.specs.Tables.{row_names};
+ghost use Rattle.hcl_types.specs.Tables.{IsBoundDesign, row_names};
 ghost use Rattle.hcl_types.specs.declared.term.Term.{Term};
 ghost use Rattle.verdict_text.specs.PipeLines.{pipe_no};
 ghost use Rattle.cli_verdicts.specs.Verdicts.{IsPipeDecision, RefusesControl, IsPipeVerdictText};
-ghost use Rattle.cli_plans.specs.Designs.{IsOrdered};
 ghost use Rattle.cli_plans.specs.PlanFollowing.{RefusesWith};
 ghost use Rattle.cli_plans.specs.declared.stop_reason.StopReason.TheVariants.{Memory as WantOfMemory};
 
-use cli_plans::{InputFault, OrderedDesign, StopReason, all_names};
+use cli_plans::{InputFault, StopReason, all_names};
 use control_check::{CheckFault, Verdict, check_pipe};
 use ctl_atoms::{Atom, CtlFault};
+use hcl_types::BoundDesign;
 use nets::Valuation;
 use pipe_motion::Settings;
 use std::alloc::Global;
@@ -25,15 +25,15 @@ use y86_base::Variant;
 pub fn control_stop<'a>(
     alloc: Global,
     name: &'a str,
-    ordered: &OrderedDesign,
+    bound: &BoundDesign,
     fault: CtlFault,
 ) -> StopReason<'a>
     requires { fault ≢ cause.Memory }
-    ensures { (terms : List Term) → IsCtlFault ordered.now.table.rows terms fault →
-        RefusesWith (RefusesControl name.now ordered.now.table.rows terms) result }
+    ensures { (terms : List Term) → IsCtlFault bound.now.table.rows terms fault →
+        RefusesWith (RefusesControl name.now bound.now.table.rows terms) result }
 {
     match fault {
-        CtlFault::Mixed(id) => match all_names(alloc, ordered.table.rows.items(), &[id]) {
+        CtlFault::Mixed(id) => match all_names(alloc, bound.table.rows.items(), &[id]) {
             Ok(names) => StopReason::Refused(
                 name,
                 InputFault::OfNames {
@@ -71,17 +71,17 @@ pub enum PipeVerdictText {
 /// The text of a `no` for PIPE, with the design's atoms.
 fn pipe_no_text<'a>(
     alloc: Global,
-    ordered: &OrderedDesign,
+    bound: &BoundDesign,
     rule: u32,
     valuation: &Valuation,
     list: &[Atom],
 ) -> Result<Vec<u8>, StopReason<'a>>
-    requires ordered { IsOrdered pipe_rows ordered.now }
+    requires ordered { IsBoundDesign pipe_rows bound.now }
     requires few { length list.now ≤ 64 }
     ensures text { IfOk result (λ text. text.items ≡ pipe_no (row_names pipe_rows) rule valuation.now.bits list.now) }
     ensures memory { OnErr result (result ≡ Err WantOfMemory) }
 {
-    match pipe_refusal(alloc, ordered.table.rows.items(), rule, valuation, list) {
+    match pipe_refusal(alloc, bound.table.rows.items(), rule, valuation, list) {
         Ok(text) => Ok(text),
         Err(_) => Err(StopReason::Memory),
     }
@@ -93,13 +93,13 @@ pub fn pipe_decision<'a>(
     alloc: Global,
     name: &'a str,
     variant: Variant,
-    ordered: &OrderedDesign,
+    bound: &BoundDesign,
 ) -> Result<PipeDecision, StopReason<'a>>
-    requires { IsOrdered pipe_rows ordered.now }
-    ensures verdict { IfOk result (IsPipeDecision variant ordered.now.design.terms) }
-    ensures refused { IfErr result (RefusesWith (RefusesControl name.now pipe_rows ordered.now.design.terms)) }
+    requires { IsBoundDesign pipe_rows bound.now }
+    ensures verdict { IfOk result (IsPipeDecision variant bound.now.ordered.design.terms) }
+    ensures refused { IfErr result (RefusesWith (RefusesControl name.now pipe_rows bound.now.ordered.design.terms)) }
 {
-    match check_pipe(alloc, variant, &ordered.design, &ordered.order) {
+    match check_pipe(alloc, variant, &bound.ordered) {
         Ok(Verdict::Yes(settings)) => Ok(PipeDecision::Yes(settings)),
         Ok(
             Verdict::No {
@@ -107,11 +107,11 @@ pub fn pipe_decision<'a>(
                 valuation,
                 atoms,
             },
-        ) => match pipe_no_text(alloc, ordered, rule, &valuation, atoms.items()) {
+        ) => match pipe_no_text(alloc, bound, rule, &valuation, atoms.items()) {
             Ok(text) => Ok(PipeDecision::No(text)),
             Err(stop) => Err(stop),
         },
-        Err(CheckFault::Ctl(fault)) => Err(control_stop(alloc, name, ordered, fault)),
+        Err(CheckFault::Ctl(fault)) => Err(control_stop(alloc, name, bound, fault)),
         Err(CheckFault::Memory) => Err(StopReason::Memory),
     }
 }
@@ -122,13 +122,13 @@ pub fn pipe_verdict<'a>(
     alloc: Global,
     name: &'a str,
     variant: Variant,
-    ordered: &OrderedDesign,
+    bound: &BoundDesign,
 ) -> Result<PipeVerdictText, StopReason<'a>>
-    requires { IsOrdered pipe_rows ordered.now }
-    ensures verdict { IfOk result (IsPipeVerdictText variant ordered.now.design.terms) }
-    ensures refused { IfErr result (RefusesWith (RefusesControl name.now pipe_rows ordered.now.design.terms)) }
+    requires { IsBoundDesign pipe_rows bound.now }
+    ensures verdict { IfOk result (IsPipeVerdictText variant bound.now.ordered.design.terms) }
+    ensures refused { IfErr result (RefusesWith (RefusesControl name.now pipe_rows bound.now.ordered.design.terms)) }
 {
-    match pipe_decision(alloc, name, variant, ordered) {
+    match pipe_decision(alloc, name, variant, bound) {
         Ok(PipeDecision::Yes(settings)) => match pipe_acceptance(alloc, &settings) {
             Ok(text) => Ok(PipeVerdictText::Yes(text)),
             Err(_) => Err(StopReason::Memory),

@@ -8,7 +8,7 @@ ghost use Rattle.control_check.specs.PipeVerdicts.{IsPipeFault};
 use crate::pipe_verdict::check_pipe;
 use crate::verdict::Verdict;
 use ctl_verdicts::CheckFault;
-use hcl_types::{Design, Order};
+use hcl_types::{Design, OrderedDesign};
 use pipe_motion::Settings;
 use std::alloc::Global;
 use std::marker::Model;
@@ -67,20 +67,19 @@ impl<'a> Accepted<'a> {
 pub fn accept_pipe<'a>(
     alloc: Global,
     variant: Variant,
-    design: &'a Design,
-    order: &'a Order,
+    ordered: &'a OrderedDesign,
 ) -> Result<Option<Accepted<'a>>, CheckFault>
-    requires bound { IsBound pipe_rows design.now.terms }
-    requires ordered { IsOrderOf pipe_rows design.now.terms order.now.ids }
-    ensures file { IfOk result (λ o. IfSome o (λ a. (a.variant ≡ variant) × (a.design ≡ design.now))) }
+    requires bound { IsBound pipe_rows ordered.now.design.terms }
+    requires ordered { IsOrderOf pipe_rows ordered.now.design.terms ordered.now.order.ids }
+    ensures file { IfOk result (λ o. IfSome o (λ a. (a.variant ≡ variant) × (a.design ≡ ordered.now.design))) }
     ensures accepted { IfOk result (λ o. IfSome o IsAccepted) }
-    ensures rejected { IfOk result (λ o. IfNone o (IsRejected variant design.now.terms)) }
-    ensures fault { IfErr result (IsPipeFault design.now.terms) }
+    ensures rejected { IfOk result (λ o. IfNone o (IsRejected variant ordered.now.design.terms)) }
+    ensures fault { IfErr result (IsPipeFault ordered.now.design.terms) }
 {
-    match check_pipe(alloc, variant, design, order)? {
+    match check_pipe(alloc, variant, ordered)? {
         Verdict::Yes(settings) => Ok(Some(Accepted {
             variant,
-            design,
+            design: &ordered.design,
             settings,
         })),
         Verdict::No { .. } => Ok(None),

@@ -17,7 +17,7 @@ use bdd_decide::each_true;
 use ctl_rules::{Rule, Rules};
 use ctl_verdicts::{CheckFault, FailedRule, check_fault, decide_in_order};
 use hazard_rules::{Late, Parts, pipe_late, pipe_parts, pipe_rules};
-use hcl_types::{Design, Order};
+use hcl_types::OrderedDesign;
 use nets::Net;
 use pipe_motion::Settings;
 use std::alloc::Global;
@@ -144,17 +144,16 @@ struct DecidedSettings {
 fn settle(
     alloc: Global,
     variant: Variant,
-    design: &Design,
-    order: &Order,
+    ordered: &OrderedDesign,
 ) -> Result<DecidedSettings, CheckFault>
-    requires bound { IsBound pipe_rows design.now.terms }
-    requires ordered { IsOrderOf pipe_rows design.now.terms order.now.ids }
-    ensures settings { IfOk result (λ r. AreSettings variant design.now.terms r.settings) }
-    ensures belong { IfOk result (λ r. BelongTo design.now.terms r.parts) }
+    requires bound { IsBound pipe_rows ordered.now.design.terms }
+    requires ordered { IsOrderOf pipe_rows ordered.now.design.terms ordered.now.order.ids }
+    ensures settings { IfOk result (λ r. AreSettings variant ordered.now.design.terms r.settings) }
+    ensures belong { IfOk result (λ r. BelongTo ordered.now.design.terms r.parts) }
     ensures variant { IfOk result (λ r. r.parts.variant ≡ variant) }
-    ensures fault { IfErr result (IsPipeFault design.now.terms) }
+    ensures fault { IfErr result (IsPipeFault ordered.now.design.terms) }
 {
-    let mut parts = match pipe_parts(alloc, variant, design, order) {
+    let mut parts = match pipe_parts(alloc, variant, ordered) {
         Ok(parts) => parts,
         Err(fault) => return Err(check_fault(fault)),
     };
@@ -178,15 +177,14 @@ fn settle(
 pub fn file_settings(
     alloc: Global,
     variant: Variant,
-    design: &Design,
-    order: &Order,
+    ordered: &OrderedDesign,
 ) -> Result<Settings, CheckFault>
-    requires bound { IsBound pipe_rows design.now.terms }
-    requires ordered { IsOrderOf pipe_rows design.now.terms order.now.ids }
-    ensures settings { IfOk result (AreSettings variant design.now.terms) }
-    ensures fault { IfErr result (IsPipeFault design.now.terms) }
+    requires bound { IsBound pipe_rows ordered.now.design.terms }
+    requires ordered { IsOrderOf pipe_rows ordered.now.design.terms ordered.now.order.ids }
+    ensures settings { IfOk result (AreSettings variant ordered.now.design.terms) }
+    ensures fault { IfErr result (IsPipeFault ordered.now.design.terms) }
 {
-    let settled = settle(alloc, variant, design, order)?;
+    let settled = settle(alloc, variant, ordered)?;
     Ok(settled.settings)
 }
 
@@ -210,18 +208,17 @@ pub struct FileRules {
 pub fn rules_at_settings(
     alloc: Global,
     variant: Variant,
-    design: &Design,
-    order: &Order,
+    ordered: &OrderedDesign,
 ) -> Result<FileRules, CheckFault>
-    requires bound { IsBound pipe_rows design.now.terms }
-    requires ordered { IsOrderOf pipe_rows design.now.terms order.now.ids }
-    ensures settings { IfOk result (λ r. AreSettings variant design.now.terms r.settings) }
-    ensures rules { IfOk result (λ r. AreRules variant design.now.terms r.settings r.rules.net r.rules.list) }
+    requires bound { IsBound pipe_rows ordered.now.design.terms }
+    requires ordered { IsOrderOf pipe_rows ordered.now.design.terms ordered.now.order.ids }
+    ensures settings { IfOk result (λ r. AreSettings variant ordered.now.design.terms r.settings) }
+    ensures rules { IfOk result (λ r. AreRules variant ordered.now.design.terms r.settings r.rules.net r.rules.list) }
     ensures variant { IfOk result (λ r. r.rules.variant ≡ variant) }
-    ensures atoms { IfOk result (λ r. AreAtoms pipe_rows design.now.terms r.rules.atoms) }
-    ensures fault { IfErr result (IsPipeFault design.now.terms) }
+    ensures atoms { IfOk result (λ r. AreAtoms pipe_rows ordered.now.design.terms r.rules.atoms) }
+    ensures fault { IfErr result (IsPipeFault ordered.now.design.terms) }
 {
-    let settled = settle(alloc, variant, design, order)?;
+    let settled = settle(alloc, variant, ordered)?;
     let settings = settled.settings;
     match pipe_rules(alloc, settled.parts, settings) {
         Ok(rules) => Ok(FileRules { settings, rules }),
@@ -319,15 +316,14 @@ pub fn rules_true(alloc: Global, net: &Net, list: &[Rule]) -> Result<Vec<bool>, 
 pub fn file_rules(
     alloc: Global,
     variant: Variant,
-    design: &Design,
-    order: &Order,
+    ordered: &OrderedDesign,
 ) -> Result<Rules, CheckFault>
-    requires bound { IsBound pipe_rows design.now.terms }
-    requires ordered { IsOrderOf pipe_rows design.now.terms order.now.ids }
-    ensures rules { IfOk result (AreFileRules variant design.now.terms) }
-    ensures fault { IfErr result (IsPipeFault design.now.terms) }
+    requires bound { IsBound pipe_rows ordered.now.design.terms }
+    requires ordered { IsOrderOf pipe_rows ordered.now.design.terms ordered.now.order.ids }
+    ensures rules { IfOk result (AreFileRules variant ordered.now.design.terms) }
+    ensures fault { IfErr result (IsPipeFault ordered.now.design.terms) }
 {
-    let made = rules_at_settings(alloc, variant, design, order)?;
+    let made = rules_at_settings(alloc, variant, ordered)?;
     Ok(made.rules)
 }
 
@@ -336,16 +332,15 @@ pub fn file_rules(
 pub fn check_pipe(
     alloc: Global,
     variant: Variant,
-    design: &Design,
-    order: &Order,
+    ordered: &OrderedDesign,
 ) -> Result<Verdict, CheckFault>
-    requires bound { IsBound pipe_rows design.now.terms }
-    requires ordered { IsOrderOf pipe_rows design.now.terms order.now.ids }
-    ensures verdict { IfOk result (IsPipeVerdict variant design.now.terms) }
-    ensures refines { IfOk result (λ v. is_yes v ≡ true → RefinesPipe variant design.now.terms) }
-    ensures fault { IfErr result (IsPipeFault design.now.terms) }
+    requires bound { IsBound pipe_rows ordered.now.design.terms }
+    requires ordered { IsOrderOf pipe_rows ordered.now.design.terms ordered.now.order.ids }
+    ensures verdict { IfOk result (IsPipeVerdict variant ordered.now.design.terms) }
+    ensures refines { IfOk result (λ v. is_yes v ≡ true → RefinesPipe variant ordered.now.design.terms) }
+    ensures fault { IfErr result (IsPipeFault ordered.now.design.terms) }
 {
-    let made = rules_at_settings(alloc, variant, design, order)?;
+    let made = rules_at_settings(alloc, variant, ordered)?;
     let settings = made.settings;
     let rules = made.rules;
     match decide_pipe(alloc, &rules.net, rules.list.items()) {

@@ -12,7 +12,7 @@ use crate::states::{Part, difference};
 use dp_machines::is_aok_stat;
 use dp_signals::constant_words;
 use hcl_compile::compile;
-use hcl_types::{Design, Order, SignalEval};
+use hcl_types::{OrderedDesign, SignalEval};
 use pipe_path::{Cycled, Pipe};
 use std::alloc::Global;
 use y86_base::{Image, Memory, Variant};
@@ -120,23 +120,22 @@ fn run_both<C: SignalEval>(v: Variant, m: &mut Machine, p: &mut Pipe<C>, limit: 
 pub fn compare(
     alloc: Global,
     v: Variant,
-    design: Design,
-    order: Order,
+    ordered: OrderedDesign,
     image: Image,
     limit: u64,
 ) -> Result<Compared, Memory>
     requires limit { limit < 2 ^ 63 }
-    requires bound { IsBound pipe_rows design.terms }
-    requires order { IsOrderOf pipe_rows design.terms order.ids }
-    ensures { IfOk result (λ c. IsCompared v (path.started v design.terms order.ids image) (start image) limit c) }
+    requires bound { IsBound pipe_rows ordered.design.terms }
+    requires order { IsOrderOf pipe_rows ordered.design.terms ordered.order.ids }
+    ensures { IfOk result (λ c. IsCompared v (path.started v ordered.design.terms ordered.order.ids image) (start image) limit c) }
 {
     let Ok(other) = image.copy(alloc) else {
         return Err(Memory);
     };
-    let Ok(compiled) = compile(alloc, &design, &order, &constant_words()) else {
+    let Ok(compiled) = compile(alloc, &ordered, &constant_words()) else {
         return Err(Memory);
     };
     let mut machine = Machine::start(other);
-    let mut pipe = Pipe::new(v, design, order, compiled, image);
+    let mut pipe = Pipe::new(v, ordered, compiled, image);
     Ok(run_both(v, &mut machine, &mut pipe, limit))
 }

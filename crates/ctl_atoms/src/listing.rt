@@ -11,18 +11,23 @@ use crate::leaf::Atom;
 use crate::mixing::first_mixed;
 use crate::open_atoms::put_open_atoms;
 use crate::rows::leaves_by_name;
-use hcl_types::{Design, Order, Table};
+use hcl_types::{OrderedDesign, Table};
 use std::alloc::{AllocError, Global};
 
 /// The atoms of the definitions, without the limit of 64.
-fn all_atoms(alloc: Global, d: &Design, t: &Table, o: &Order) -> Result<Vec<Atom>, AllocError>
+fn all_atoms(alloc: Global, ordered: &OrderedDesign, t: &Table) -> Result<Vec<Atom>, AllocError>
     requires sound { IsSound t.now.rows }
-    requires ordered { IsOrderOf t.now.rows d.now.terms o.now.ids }
-    ensures { IfOk result (λ out. (leaves : ℕ → List Leaf) → IsSolution (leaf_rule t.now.rows d.now.terms) leaves → out.items ≡ atoms_of leaves d.now.terms) }
+    requires ordered { IsOrderOf t.now.rows ordered.now.design.terms ordered.now.order.ids }
+    ensures { IfOk result (λ out. (leaves : ℕ → List Leaf) → IsSolution (leaf_rule t.now.rows ordered.now.design.terms) leaves → out.items ≡ atoms_of leaves ordered.now.design.terms) }
 {
-    let lists = leaves_by_name(alloc, d, t, o)?;
+    let lists = leaves_by_name(alloc, ordered, t)?;
     let mut out = Vec::new(alloc);
-    put_open_atoms(alloc, lists.as_slice(), &mut out, d.terms.items())?;
+    put_open_atoms(
+        alloc,
+        lists.as_slice(),
+        &mut out,
+        ordered.design.terms.items(),
+    )?;
     Ok(out)
 }
 
@@ -32,15 +37,15 @@ fn all_atoms(alloc: Global, d: &Design, t: &Table, o: &Order) -> Result<Vec<Atom
 ///
 /// Errors: `Mixed` of the first definition, in table order, that mixes Code with Value; if there is none,
 /// `AtomsOver64`; `Memory`.
-pub fn atoms(alloc: Global, d: &Design, t: &Table, o: &Order) -> Result<Vec<Atom>, CtlFault>
+pub fn atoms(alloc: Global, ordered: &OrderedDesign, t: &Table) -> Result<Vec<Atom>, CtlFault>
     requires sound { IsSound t.now.rows }
-    requires bound { IsBound t.now.rows d.now.terms }
-    requires ordered { IsOrderOf t.now.rows d.now.terms o.now.ids }
-    ensures { MatchResult result (λ out. AreAtoms t.now.rows d.now.terms out.items) (IsCtlFault t.now.rows d.now.terms) }
+    requires bound { IsBound t.now.rows ordered.now.design.terms }
+    requires ordered { IsOrderOf t.now.rows ordered.now.design.terms ordered.now.order.ids }
+    ensures { MatchResult result (λ out. AreAtoms t.now.rows ordered.now.design.terms out.items) (IsCtlFault t.now.rows ordered.now.design.terms) }
 {
-    match first_mixed(t.rows.items(), d.terms.items()) {
+    match first_mixed(t.rows.items(), ordered.design.terms.items()) {
         Some(id) => Err(CtlFault::Mixed(id)),
-        None => match all_atoms(alloc, d, t, o) {
+        None => match all_atoms(alloc, ordered, t) {
             Err(_) => Err(CtlFault::Memory),
             Ok(out) => {
                 if out.len() > 64 {

@@ -8,7 +8,7 @@ ghost use Rattle.ctl_atoms.specs.Rows as specs;
 
 use crate::leaf::Leaf;
 use crate::leaves::term_leaves;
-use hcl_types::{Class, Design, NameId, Order, Role, Row, Table, Term, is_defined};
+use hcl_types::{Class, NameId, OrderedDesign, Role, Row, Table, Term, is_defined};
 use std::alloc::{AllocError, Global};
 use y86_base::Items;
 
@@ -153,19 +153,24 @@ fn given_lists(alloc: Global, rows: &[Row]) -> Result<Vec<Items<Leaf>>, AllocErr
 /// the state or the hardware are the numbers of 4 bits, those of a defined name the leaves of its term.
 pub fn leaves_by_name(
     alloc: Global,
-    d: &Design,
+    ordered: &OrderedDesign,
     t: &Table,
-    o: &Order,
 ) -> Result<Vec<Items<Leaf>>, AllocError>
     requires sound { IsSound t.now.rows }
-    requires ordered { IsOrderOf t.now.rows d.now.terms o.now.ids }
+    requires ordered { IsOrderOf t.now.rows ordered.now.design.terms ordered.now.order.ids }
     ensures whole { IfOk result (λ lists. length lists.items ≡ length t.now.rows) }
-    ensures solved { IfOk result (λ lists. IsSolution (leaf_rule t.now.rows d.now.terms) (leaves_at lists.items)) }
+    ensures solved { IfOk result (λ lists. IsSolution (leaf_rule t.now.rows ordered.now.design.terms) (leaves_at lists.items)) }
 {
     let rows = t.rows.items();
     let mut lists = given_lists(alloc, rows)?;
-    for id in o.ids.items() {
-        let leaves = leaves_of_row(alloc, rows, d.terms.items(), lists.as_slice(), *id)?;
+    for id in ordered.order.ids.items() {
+        let leaves = leaves_of_row(
+            alloc,
+            rows,
+            ordered.design.terms.items(),
+            lists.as_slice(),
+            *id,
+        )?;
         lists[*id as usize] = Items::of(leaves);
     }
     Ok(lists)

@@ -5,7 +5,7 @@ ghost use Rattle.hcl_compile.specs.Walks.{AreRoots};
 use crate::choices::put_value;
 use crate::decisions::Decisions;
 use crate::node::Compiled;
-use hcl_types::{Design, Order, SignalEval, Term};
+use hcl_types::{OrderedDesign, SignalEval, Term};
 use std::alloc::Global;
 use y86_base::{Items, Memory};
 
@@ -50,18 +50,17 @@ fn copied(alloc: Global, constants: &[u64]) -> Result<Vec<u64>, Memory>
 /// definitions are rows, which have their values once those are computed, in the sequence of the order.
 pub fn compile(
     alloc: Global,
-    design: &Design,
-    _order: &Order,
+    ordered: &OrderedDesign,
     constants: &[u64],
 ) -> Result<Compiled, Memory>
-    ensures evaluates { IfOk result (λ c. ⟦<Compiled as SignalEval>⟧.evaluates c design.now.terms) }
+    ensures evaluates { IfOk result (λ c. ⟦<Compiled as SignalEval>⟧.evaluates c ordered.now.design.terms) }
     ensures assumes { IfOk result (λ c. ⟦<Compiled as SignalEval>⟧.assumes c ≡ constants.now) }
 {
     let mut d = Decisions {
         nodes: Vec::new(alloc),
         terms: Vec::new(alloc),
     };
-    let roots = put_roots(alloc, design.terms.items(), constants, &mut d)?;
+    let roots = put_roots(alloc, ordered.design.terms.items(), constants, &mut d)?;
     let constants = copied(alloc, constants)?;
     let Decisions { nodes, terms } = d;
     Ok(Compiled {

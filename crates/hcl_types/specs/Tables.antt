@@ -8,6 +8,7 @@ use Rattle.hcl_types.specs.declared.table.Class.TheVariants.{Number, Code, Value
 use Rattle.hcl_types.specs.declared.table.Role.{Role}
 use Rattle.hcl_types.specs.declared.table.Role.TheVariants.{Constant, State, Hardware, Defined}
 use Rattle.hcl_types.specs.declared.table.Row.{Row}
+use Rattle.hcl_types.specs.declared.table.BoundDesign.{BoundDesign}
 use Rattle.hcl_types.specs.Lists.{IsApart}
 use Rattle.hcl_types.specs.Terms.{names}
 use Rattle.hcl_types.specs.Kinds.{has_class}
@@ -87,3 +88,10 @@ known rows = map (λ (row : Row). is_given row.role) rows
 -- ids is an order of the design and the table: all defined and hardware rows, each once, each after all that it needs
 abbrev pub IsOrderOf : List Row → List Term → List ℕ → Type 0
 IsOrderOf rows terms ids = IsTopologicalOrder (needs rows terms) (known rows) ids
+
+-- a table with these rows, a design over it, and an order of the design's signals
+pub record IsBoundDesign (rows : List Row) (file : BoundDesign) : Type 0 where
+  pub table : file.table.rows ≡ rows
+  pub sound : IsSound rows
+  pub bound : IsBound rows file.ordered.design.terms
+  pub order : IsOrderOf rows file.ordered.design.terms file.ordered.order.ids

@@ -58,6 +58,20 @@ pub struct Order {
     pub ids: Items<NameId>,
 }
 
+/// A design, and an order in which its signals can be computed.
+#[derive(Debug, PartialEq, Drop)]
+pub struct OrderedDesign {
+    pub design: Design,
+    pub order: Order,
+}
+
+/// A table, and a design bound over it with an order of its signals.
+#[derive(Debug, PartialEq, Drop)]
+pub struct BoundDesign {
+    pub table: Table,
+    pub ordered: OrderedDesign,
+}
+
 /// Whether a file must define the row.
 pub fn is_defined(role: &Role) -> bool
     ensures { result ≡ tables.is_defined role.now }

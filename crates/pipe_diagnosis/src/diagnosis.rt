@@ -107,7 +107,7 @@ fn found_at(
     requires near { scope.now.first ≤ 1000 }
     requires first { 1 ≤ number }
     ensures findings { IfOk result (λ r. r.findings
-        ≡ map (finding signal.f_pc file.now.design.now.terms (assigned scope.now.atoms.now scope.now.first scope.now.bits.now) (at scope.now.leaves.now))
+        ≡ map (finding signal.f_pc file.now.ordered.now.design.terms (assigned scope.now.atoms.now scope.now.first scope.now.bits.now) (at scope.now.leaves.now))
         (requirements file.now.variant file.now.settings.now (fields_of scope.now.bits.now)
         (stages.flow_of file.now.variant file.now.settings.now (fields_of scope.now.bits.now))
         (rule.register_controls_of (assigned scope.now.atoms.now scope.now.first scope.now.bits.now) (at scope.now.leaves.now)) (at scope.now.leaves.now) number)) }
@@ -127,7 +127,7 @@ fn found_at(
         leaves: scope.leaves,
     };
     let all = requirements_at(alloc, &n, number)?;
-    let terms = file.design.terms.items();
+    let terms = file.ordered.design.terms.items();
     let findings = findings_of(alloc, scope, terms, name::F_PC, all.as_slice())?;
     let repairs = repairs_of(alloc, &n)?;
     Ok(FindingsAndRepairs {
@@ -144,11 +144,11 @@ pub fn diagnose(
     number: u32,
     bits: &[bool],
 ) -> Result<Diagnosis, Memory>
-    requires ordered { IsOrderOf pipe_rows file.now.design.now.terms file.now.order.now.ids }
-    requires atoms { AreAtoms pipe_rows file.now.design.now.terms atoms.now }
+    requires ordered { IsOrderOf pipe_rows file.now.ordered.now.design.terms file.now.ordered.now.order.ids }
+    requires atoms { AreAtoms pipe_rows file.now.ordered.now.design.terms atoms.now }
     requires first { 1 ≤ number }
-    requires fails { spec.Fails file.now.variant file.now.design.now.terms file.now.settings.now atoms.now number bits.now }
-    ensures diagnosis { IfOk result (spec.IsDiagnosis file.now.variant file.now.design.now.terms file.now.settings.now atoms.now number bits.now) }
+    requires fails { spec.Fails file.now.variant file.now.ordered.now.design.terms file.now.settings.now atoms.now number bits.now }
+    ensures diagnosis { IfOk result (spec.IsDiagnosis file.now.variant file.now.ordered.now.design.terms file.now.settings.now atoms.now number bits.now) }
 {
     let t = match pipe_table(alloc) {
         Ok(t) => t,
@@ -160,7 +160,7 @@ pub fn diagnose(
         first: BIT_COUNT as usize,
         bits,
     };
-    let leaves = control_values(alloc, file.design, &t, file.order, &situation)?;
+    let leaves = control_values(alloc, file.ordered, &t, &situation)?;
     let scope = Scope {
         atoms,
         first: BIT_COUNT as usize,

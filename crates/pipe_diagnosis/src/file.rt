@@ -1,5 +1,5 @@
 //! A file for PIPE, with all that its obligations depend on.
-use hcl_types::{Design, Order};
+use hcl_types::OrderedDesign;
 use pipe_motion::Settings;
 use y86_base::Variant;
 
@@ -8,10 +8,8 @@ use y86_base::Variant;
 pub struct PipeFile<'a> {
     /// The instruction set.
     pub variant: Variant,
-    /// The definitions of the file.
-    pub design: &'a Design,
-    /// An order in which its signals can be computed.
-    pub order: &'a Order,
+    /// The definitions of the file, with an order of its signals.
+    pub ordered: &'a OrderedDesign,
     /// Its settings, which the check finds: its obligations depend on them.
     pub settings: &'a Settings,
 }

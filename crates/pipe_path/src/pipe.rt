@@ -18,10 +18,10 @@ ghost use Rattle.pipe_path.specs.Pipe as spec;
 
 use dp_machines::{is_aok_stat, record_count};
 use dp_signals::{
-    CycleEnd, OrderedDesign, PipeState, PipeValues, advance, advance_loading, all_load,
-    constant_words, end_of_cycle, ending, given, put_given, retires, solve_pipe_in,
+    CycleEnd, PipeState, PipeValues, advance, advance_loading, all_load, constant_words,
+    end_of_cycle, ending, given, put_given, retires, solve_pipe_in,
 };
-use hcl_types::{Design, Order, SignalEval};
+use hcl_types::{OrderedDesign, SignalEval};
 use std::marker::Model;
 use y86_base::{Image, Stat, Variant};
 use y86_isa::Rec;
@@ -48,8 +48,7 @@ pub enum Cycled {
 #[derive(Drop)]
 pub struct Pipe<C: SignalEval> {
     variant: Variant,
-    design: Design,
-    order: Order,
+    ordered: OrderedDesign,
     evaluator: C,
     state: PipeState,
     cycles: u64,
@@ -72,10 +71,10 @@ impl<C: SignalEval> Model for Pipe<C> {
 
     ghost coded = { Prim.hlevel (codes, term.the_row.coded) };
 
-    ghost view = { λ p. seen p.variant p.design.terms p.order.ids p.state p.cycles p.retired p.end };
+    ghost view = { λ p. seen p.variant p.ordered.design.terms p.ordered.order.ids p.state p.cycles p.retired p.end };
 
-    ghost invariant = { λ p. C.evaluates p.evaluator p.design.terms × (IsTrue p.fits → Starts (C.assumes p.evaluator) constants)
-        × AreGiven p.state p.values × IsPipe p.design.terms p.order.ids p.cycles p.retired };
+    ghost invariant = { λ p. C.evaluates p.evaluator p.ordered.design.terms × (IsTrue p.fits → Starts (C.assumes p.evaluator) constants)
+        × AreGiven p.state p.values × IsPipe p.ordered.design.terms p.ordered.order.ids p.cycles p.retired };
 }
 
 fn told(ending: CycleEnd, retired: Option<Rec>) -> Cycled
@@ -140,19 +139,18 @@ fn end_pc(state: &PipeState, end: Stat) -> u64
 impl<C: SignalEval> Pipe<C> {
     /// A machine before its first cycle, with a memory image. The evaluator must be one of the design. No memory is
     /// allocated, here or later.
-    pub fn new(variant: Variant, design: Design, order: Order, evaluator: C, mem: Image) -> Pipe<C>
-        requires evaluates { C.evaluates evaluator design.terms }
-        requires bound { IsBound pipe_rows design.terms }
-        requires ordered { IsOrderOf pipe_rows design.terms order.ids }
-        ensures { result ≡ spec.started variant design.terms order.ids mem }
+    pub fn new(variant: Variant, ordered: OrderedDesign, evaluator: C, mem: Image) -> Pipe<C>
+        requires evaluates { C.evaluates evaluator ordered.design.terms }
+        requires bound { IsBound pipe_rows ordered.design.terms }
+        requires ordered { IsOrderOf pipe_rows ordered.design.terms ordered.order.ids }
+        ensures { result ≡ spec.started variant ordered.design.terms ordered.order.ids mem }
     {
         let fits = evaluator.fits(&constant_words());
         let state = PipeState::start(mem);
         let values = given(&state);
         Pipe {
             variant,
-            design,
-            order,
+            ordered,
             evaluator,
             state,
             cycles: 0,
@@ -175,13 +173,9 @@ impl<C: SignalEval> Pipe<C> {
         if !is_aok_stat(self.end) {
             return Cycled::Ended;
         }
-        let ordered = OrderedDesign {
-            design: &self.design,
-            order: &self.order,
-        };
         solve_pipe_in(
             self.variant,
-            ordered,
+            &self.ordered,
             &self.state,
             &mut self.evaluator,
             self.fits,
@@ -206,13 +200,9 @@ impl<C: SignalEval> Pipe<C> {
         if !is_aok_stat(self.end) {
             return 0;
         }
-        let ordered = OrderedDesign {
-            design: &self.design,
-            order: &self.order,
-        };
         solve_pipe_in(
             self.variant,
-            ordered,
+            &self.ordered,
             &self.state,
             &mut self.evaluator,
             self.fits,

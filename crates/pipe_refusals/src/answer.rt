@@ -11,7 +11,7 @@ ghost use Rattle.pipe_refusals.specs.Answered as spec;
 
 use control_check::{CheckFault, FailedRule, decide_pipe, rules_at_settings};
 use ctl_rules::{Rule, Rules};
-use hcl_types::{Design, Order};
+use hcl_types::OrderedDesign;
 use pipe_diagnosis::{PipeFile, Refusal, Refutation, diagnose};
 use pipe_motion::Settings;
 use std::alloc::Global;
@@ -40,11 +40,11 @@ fn refute(
     from: usize,
     failure: FailedRule,
 ) -> Result<Refutation, Memory>
-    requires ordered { IsOrderOf pipe_rows file.now.design.now.terms file.now.order.now.ids }
-    requires rules { AreRules file.now.variant file.now.design.now.terms file.now.settings.now rules.now.net rules.now.list }
-    requires atoms { AreAtoms pipe_rows file.now.design.now.terms rules.now.atoms }
+    requires ordered { IsOrderOf pipe_rows file.now.ordered.now.design.terms file.now.ordered.now.order.ids }
+    requires rules { AreRules file.now.variant file.now.ordered.now.design.terms file.now.settings.now rules.now.net rules.now.list }
+    requires atoms { AreAtoms pipe_rows file.now.ordered.now.design.terms rules.now.atoms }
     requires failure { IsRuleDecision rules.now.net (drop from rules.now.list) (Some failure) }
-    ensures refutation { IfOk result (spec.IsRefutation file.now.variant file.now.design.now.terms file.now.settings.now rules.now.atoms) }
+    ensures refutation { IfOk result (spec.IsRefutation file.now.variant file.now.ordered.now.design.terms file.now.settings.now rules.now.atoms) }
     ensures rule { IfOk result (λ x. x.rule ≡ failure.rule) }
     ensures valuation { IfOk result (λ x. x.valuation ≡ failure.valuation) }
 {
@@ -83,12 +83,12 @@ fn refute_next(
     from: usize,
     others: &mut Vec<Refutation>,
 ) -> Result<usize, Memory>
-    requires ordered { IsOrderOf pipe_rows file.now.design.now.terms file.now.order.now.ids }
-    requires rules { AreRules file.now.variant file.now.design.now.terms file.now.settings.now rules.now.net rules.now.list }
-    requires atoms { AreAtoms pipe_rows file.now.design.now.terms rules.now.atoms }
+    requires ordered { IsOrderOf pipe_rows file.now.ordered.now.design.terms file.now.ordered.now.order.ids }
+    requires rules { AreRules file.now.variant file.now.ordered.now.design.terms file.now.settings.now rules.now.net rules.now.list }
+    requires atoms { AreAtoms pipe_rows file.now.ordered.now.design.terms rules.now.atoms }
     requires from { from < length rules.now.list }
-    requires refuted { spec.AreRefuted file.now.variant file.now.design.now.terms file.now.settings.now rules.now.atoms from (first.now ∷ others.old.items) }
-    ensures refuted { IfOk result (λ until. spec.AreRefuted file.now.variant file.now.design.now.terms file.now.settings.now rules.now.atoms until (first.now ∷ others.new.items)) }
+    requires refuted { spec.AreRefuted file.now.variant file.now.ordered.now.design.terms file.now.settings.now rules.now.atoms from (first.now ∷ others.old.items) }
+    ensures refuted { IfOk result (λ until. spec.AreRefuted file.now.variant file.now.ordered.now.design.terms file.now.settings.now rules.now.atoms until (first.now ∷ others.new.items)) }
     ensures more { IfOk result (λ until. from < until) }
     ensures within { IfOk result (λ until. until ≤ length rules.now.list) }
 {
@@ -111,12 +111,12 @@ fn refute_others(
     rules: &Rules,
     first: &Refutation,
 ) -> Result<Vec<Refutation>, Memory>
-    requires ordered { IsOrderOf pipe_rows file.now.design.now.terms file.now.order.now.ids }
-    requires rules { AreRules file.now.variant file.now.design.now.terms file.now.settings.now rules.now.net rules.now.list }
-    requires atoms { AreAtoms pipe_rows file.now.design.now.terms rules.now.atoms }
+    requires ordered { IsOrderOf pipe_rows file.now.ordered.now.design.terms file.now.ordered.now.order.ids }
+    requires rules { AreRules file.now.variant file.now.ordered.now.design.terms file.now.settings.now rules.now.net rules.now.list }
+    requires atoms { AreAtoms pipe_rows file.now.ordered.now.design.terms rules.now.atoms }
     requires within { first.now.rule ≤ length rules.now.list }
-    requires first { spec.AreRefuted file.now.variant file.now.design.now.terms file.now.settings.now rules.now.atoms first.now.rule (first.now ∷ []) }
-    ensures { IfOk result (λ others. spec.AreRefuted file.now.variant file.now.design.now.terms file.now.settings.now rules.now.atoms (length rules.now.list) (first.now ∷ others.items)) }
+    requires first { spec.AreRefuted file.now.variant file.now.ordered.now.design.terms file.now.settings.now rules.now.atoms first.now.rule (first.now ∷ []) }
+    ensures { IfOk result (λ others. spec.AreRefuted file.now.variant file.now.ordered.now.design.terms file.now.settings.now rules.now.atoms (length rules.now.list) (first.now ∷ others.items)) }
 {
     let mut others = Vec::new(alloc);
     let mut from = first.rule as usize;
@@ -139,12 +139,12 @@ fn refuse(
     rules: Rules,
     failure: FailedRule,
 ) -> Result<Refusal, Memory>
-    requires ordered { IsOrderOf pipe_rows file.now.design.now.terms file.now.order.now.ids }
-    requires settings { AreSettings file.now.variant file.now.design.now.terms file.now.settings.now }
-    requires rules { AreRules file.now.variant file.now.design.now.terms file.now.settings.now rules.net rules.list }
-    requires atoms { AreAtoms pipe_rows file.now.design.now.terms rules.atoms }
+    requires ordered { IsOrderOf pipe_rows file.now.ordered.now.design.terms file.now.ordered.now.order.ids }
+    requires settings { AreSettings file.now.variant file.now.ordered.now.design.terms file.now.settings.now }
+    requires rules { AreRules file.now.variant file.now.ordered.now.design.terms file.now.settings.now rules.net rules.list }
+    requires atoms { AreAtoms pipe_rows file.now.ordered.now.design.terms rules.atoms }
     requires failure { IsRuleDecision rules.net rules.list (Some failure) }
-    ensures { IfOk result (spec.IsRefusal file.now.variant file.now.design.now.terms) }
+    ensures { IfOk result (spec.IsRefusal file.now.variant file.now.ordered.now.design.terms) }
 {
     let first = refute(alloc, file, &rules, 0, failure)?;
     let others = refute_others(alloc, file, &rules, &first)?;
@@ -162,16 +162,15 @@ fn refuse(
 pub fn diagnose_pipe(
     alloc: Global,
     v: Variant,
-    d: &Design,
-    o: &Order,
+    ordered: &OrderedDesign,
 ) -> Result<PipeAnswer, CheckFault>
-    requires bound { IsBound pipe_rows d.now.terms }
-    requires ordered { IsOrderOf pipe_rows d.now.terms o.now.ids }
-    ensures answer { IfOk result (spec.IsAnswer v d.now.terms) }
-    ensures refines { IfOk result (λ answer. spec.is_yes answer ≡ true → RefinesPipe v d.now.terms) }
-    ensures fault { IfErr result (IsPipeFault d.now.terms) }
+    requires bound { IsBound pipe_rows ordered.now.design.terms }
+    requires ordered { IsOrderOf pipe_rows ordered.now.design.terms ordered.now.order.ids }
+    ensures answer { IfOk result (spec.IsAnswer v ordered.now.design.terms) }
+    ensures refines { IfOk result (λ answer. spec.is_yes answer ≡ true → RefinesPipe v ordered.now.design.terms) }
+    ensures fault { IfErr result (IsPipeFault ordered.now.design.terms) }
 {
-    let made = rules_at_settings(alloc, v, d, o)?;
+    let made = rules_at_settings(alloc, v, ordered)?;
     let settings = made.settings;
     let rules = made.rules;
     match decide_pipe(alloc, &rules.net, rules.list.items()) {
@@ -179,8 +178,7 @@ pub fn diagnose_pipe(
         Ok(Some(failure)) => {
             let file = PipeFile {
                 variant: v,
-                design: d,
-                order: o,
+                ordered,
                 settings: &settings,
             };
             match refuse(alloc, &file, rules, failure) {

@@ -19,8 +19,8 @@ use crate::processor::ProcessorDesign;
 use crate::stage_contents::{StageContents, fetched, first_watch, moved_watch, requested_updates};
 use dp_machines::{is_aok_stat, record_count};
 use dp_signals::{
-    CycleEnd, OrderedDesign, PipeState, PipeValues, advance, constant_words, end_of_cycle, ending,
-    given, retires, solve_pipe_in,
+    CycleEnd, PipeState, PipeValues, advance, constant_words, end_of_cycle, ending, given, retires,
+    solve_pipe_in,
 };
 use hcl_types::SignalEval;
 use std::alloc::Global;
@@ -103,12 +103,12 @@ fn put_lines(
     window: &CycleRange,
     cycle: &WatchedCycle<'_>,
 ) -> Result<(), Memory>
-    ensures { OnOk result (out.new.items ≡ out.old.items ++ spec.lines_shown (sources processor.now.rows.now processor.now.design.now.terms)
+    ensures { OnOk result (out.new.items ≡ out.old.items ++ spec.lines_shown (sources processor.now.rows.now processor.now.ordered.now.design.terms)
         window.now cycle.now.number cycle.now.watch.now cycle.now.fetch.now cycle.now.state.now (at cycle.now.values.now)) }
 {
     if !window.diagram && is_within(window, cycle.number) {
         let values = cycle.values;
-        let sources = sources_of(processor.rows, processor.design, values);
+        let sources = sources_of(processor.rows, &processor.ordered.design, values);
         put_cycle(out, cycle, &sources)
     } else {
         Ok(())
@@ -151,7 +151,7 @@ fn step(
 ) -> Result<(), Memory>
     requires rows { s.old.watch.rows < 2 ^ 63 }
     requires retired { s.old.retired < 2 ^ 63 }
-    ensures after { OnOk result (s.new ≡ spec.after (sources processor.now.rows.now processor.now.design.now.terms) window.now number s.old (at values.now)) }
+    ensures after { OnOk result (s.new ≡ spec.after (sources processor.now.rows.now processor.now.ordered.now.design.terms) window.now number s.old (at values.now)) }
     ensures few_rows { OnOk result (s.new.watch.rows ≤ s.old.watch.rows + 5) }
     ensures few_retired { OnOk result (s.new.retired ≤ s.old.retired + 1) }
 {
@@ -189,27 +189,23 @@ fn cycle<C: SignalEval>(
     window: &CycleRange,
     number: u64,
 ) -> Result<(), Memory>
-    requires evaluates { C.evaluates evaluator.old processor.now.design.now.terms }
+    requires evaluates { C.evaluates evaluator.old processor.now.ordered.now.design.terms }
     requires fits { IsTrue fits → Starts (C.assumes evaluator.old) constants }
-    requires bound { IsBound pipe_rows processor.now.design.now.terms }
-    requires ordered { IsOrderOf pipe_rows processor.now.design.now.terms processor.now.order.now.ids }
+    requires bound { IsBound pipe_rows processor.now.ordered.now.design.terms }
+    requires ordered { IsOrderOf pipe_rows processor.now.ordered.now.design.terms processor.now.ordered.now.order.ids }
     requires rows { s.old.watch.rows < 2 ^ 63 }
     requires retired { s.old.retired < 2 ^ 63 }
-    ensures kept { OnOk result (C.evaluates evaluator.new processor.now.design.now.terms) }
+    ensures kept { OnOk result (C.evaluates evaluator.new processor.now.ordered.now.design.terms) }
     ensures same { OnOk result (C.assumes evaluator.new ≡ C.assumes evaluator.old) }
-    ensures cycle { OnOk result ((f : ℕ → ℕ) × Solves processor.now.variant processor.now.design.now.terms s.old.state f
-        × (s.new ≡ spec.after (sources processor.now.rows.now processor.now.design.now.terms) window.now number s.old f)) }
+    ensures cycle { OnOk result ((f : ℕ → ℕ) × Solves processor.now.variant processor.now.ordered.now.design.terms s.old.state f
+        × (s.new ≡ spec.after (sources processor.now.rows.now processor.now.ordered.now.design.terms) window.now number s.old f)) }
     ensures few_rows { OnOk result (s.new.watch.rows ≤ s.old.watch.rows + 5) }
     ensures few_retired { OnOk result (s.new.retired ≤ s.old.retired + 1) }
 {
     let mut values = given(state_of(s));
-    let ordered = OrderedDesign {
-        design: processor.design,
-        order: processor.order,
-    };
     solve_pipe_in(
         processor.variant,
-        ordered,
+        processor.ordered,
         state_of(s),
         evaluator,
         fits,
@@ -254,11 +250,11 @@ fn watch_listed<C: SignalEval>(
     request: WatchRequest,
 ) -> Result<ObservedRun, Memory>
     requires table { processor.now.rows.now ≡ pipe_rows }
-    requires evaluates { C.evaluates evaluator.old processor.now.design.now.terms }
-    requires bound { IsBound pipe_rows processor.now.design.now.terms }
-    requires ordered { IsOrderOf pipe_rows processor.now.design.now.terms processor.now.order.now.ids }
+    requires evaluates { C.evaluates evaluator.old processor.now.ordered.now.design.terms }
+    requires bound { IsBound pipe_rows processor.now.ordered.now.design.terms }
+    requires ordered { IsOrderOf pipe_rows processor.now.ordered.now.design.terms processor.now.ordered.now.order.ids }
     requires limit { request.limit ≤ 100000000 }
-    ensures { IfOk result (λ w. ShowsRun processor.now.variant processor.now.design.now.terms (text_in listing.now.entries)
+    ensures { IfOk result (λ w. ShowsRun processor.now.variant processor.now.ordered.now.design.terms (text_in listing.now.entries)
         request.window request.image request.limit w.text.items w.end) }
 {
     let WatchRequest {
@@ -297,11 +293,11 @@ pub fn watch_run<C: SignalEval>(
     request: WatchRequest,
 ) -> Result<ObservedRun, Memory>
     requires table { processor.now.rows.now ≡ pipe_rows }
-    requires evaluates { C.evaluates evaluator.old processor.now.design.now.terms }
-    requires bound { IsBound pipe_rows processor.now.design.now.terms }
-    requires ordered { IsOrderOf pipe_rows processor.now.design.now.terms processor.now.order.now.ids }
+    requires evaluates { C.evaluates evaluator.old processor.now.ordered.now.design.terms }
+    requires bound { IsBound pipe_rows processor.now.ordered.now.design.terms }
+    requires ordered { IsOrderOf pipe_rows processor.now.ordered.now.design.terms processor.now.ordered.now.order.ids }
     requires limit { request.limit ≤ 100000000 }
-    ensures { IfOk result (λ w. ShowsRun processor.now.variant processor.now.design.now.terms (listed object.now)
+    ensures { IfOk result (λ w. ShowsRun processor.now.variant processor.now.ordered.now.design.terms (listed object.now)
         request.window request.image request.limit w.text.items w.end) }
 {
     let Ok(listing) = listing_for(alloc, object, request.window.diagram) else {

@@ -7,7 +7,7 @@ ghost use Rattle.prog_cosim.specs.Cosimulation.{IsCosimulation};
 use crate::reports::same_reports;
 use dp_signals::constant_words;
 use hcl_compile::compile;
-use hcl_types::{Design, Order};
+use hcl_types::OrderedDesign;
 use pipe_path::Pipe;
 use prog_gen::program;
 use retire_trace::drive;
@@ -43,15 +43,14 @@ fn are_halts(one: Stat, other: Stat) -> bool
 pub fn cosimulate(
     alloc: Global,
     variant: Variant,
-    design: Design,
-    order: Order,
+    ordered: OrderedDesign,
     n: u64,
 ) -> Result<CosimResult, Memory>
     requires least { 1 ≤ n }
     requires most { n ≤ 100000 }
-    requires bound { IsBound pipe_rows design.terms }
-    requires order { IsOrderOf pipe_rows design.terms order.ids }
-    ensures { IfOk result (λ b. IsCosimulation variant design.terms n b) }
+    requires bound { IsBound pipe_rows ordered.design.terms }
+    requires order { IsOrderOf pipe_rows ordered.design.terms ordered.order.ids }
+    ensures { IfOk result (λ b. IsCosimulation variant ordered.design.terms n b) }
 {
     let limit = 10 * n + 100;
     let Ok(first) = program(alloc, n) else {
@@ -63,12 +62,12 @@ pub fn cosimulate(
     let Ok(other_image) = first.copy(alloc) else {
         return Err(Memory);
     };
-    let Ok(compiled) = compile(alloc, &design, &order, &constant_words()) else {
+    let Ok(compiled) = compile(alloc, &ordered, &constant_words()) else {
         return Err(Memory);
     };
     let mut machine = Machine::start(image);
     let ran = run(variant, &mut machine, limit);
-    let mut pipe = Pipe::new(variant, design, order, compiled, other_image);
+    let mut pipe = Pipe::new(variant, ordered, compiled, other_image);
     let mut no_trace = MemSink::new(alloc, Vec::new(alloc));
     let Ok(drove) = drive(&mut pipe, limit, false, &mut no_trace) else {
         return Err(Memory);

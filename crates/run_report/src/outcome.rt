@@ -13,7 +13,7 @@ ghost use Rattle.yo_object.specs.ObjectText.{object_of};
 use control_check::{CheckFault, Verdict, check_pipe};
 use cosimulation::{Compared, compare};
 use ctl_atoms::CtlFault;
-use hcl_types::{Design, Order};
+use hcl_types::OrderedDesign;
 use program_check::{Watched, watch};
 use std::alloc::Global;
 use y86_base::{Image, Memory, Variant};
@@ -38,10 +38,8 @@ pub enum Judged {
 pub struct OutcomeRequest {
     /// The instruction set.
     pub variant: Variant,
-    /// The design of PIPE.
-    pub design: Design,
-    /// An order in which its signals can be computed.
-    pub order: Order,
+    /// The design of PIPE, with an order of its signals.
+    pub ordered: OrderedDesign,
     /// The most cycles.
     pub limit: u64,
     /// Whether the check is run too.
@@ -62,13 +60,13 @@ pub struct Outcome {
 }
 
 /// The check's answer on a design.
-fn judge(alloc: Global, v: Variant, design: &Design, order: &Order) -> Result<Judged, Memory>
-    requires bound { IsBound pipe_rows design.now.terms }
-    requires ordered { IsOrderOf pipe_rows design.now.terms order.now.ids }
-    ensures judged { IfOk result (IsJudged v design.now.terms) }
+fn judge(alloc: Global, v: Variant, ordered: &OrderedDesign) -> Result<Judged, Memory>
+    requires bound { IsBound pipe_rows ordered.now.design.terms }
+    requires ordered { IsOrderOf pipe_rows ordered.now.design.terms ordered.now.order.ids }
+    ensures judged { IfOk result (IsJudged v ordered.now.design.terms) }
     ensures asked { IfOk result (λ judged. judged ≢ Judged.Unasked) }
 {
-    match check_pipe(alloc, v, design, order) {
+    match check_pipe(alloc, v, ordered) {
         Ok(Verdict::Yes(_)) => Ok(Judged::Yes),
         Ok(Verdict::No { rule, .. }) => Ok(Judged::No(rule)),
         Err(CheckFault::Ctl(fault)) => Ok(Judged::Unknown(fault)),
@@ -81,16 +79,15 @@ fn judge_if(
     alloc: Global,
     asks: bool,
     v: Variant,
-    design: &Design,
-    order: &Order,
+    ordered: &OrderedDesign,
 ) -> Result<Judged, Memory>
-    requires bound { IsBound pipe_rows design.now.terms }
-    requires ordered { IsOrderOf pipe_rows design.now.terms order.now.ids }
-    ensures judged { IfOk result (IsJudged v design.now.terms) }
+    requires bound { IsBound pipe_rows ordered.now.design.terms }
+    requires ordered { IsOrderOf pipe_rows ordered.now.design.terms ordered.now.order.ids }
+    ensures judged { IfOk result (IsJudged v ordered.now.design.terms) }
     ensures asked { IfOk result (λ judged. (asks ≡ true) ↔ (judged ≢ Judged.Unasked)) }
 {
     if asks {
-        judge(alloc, v, design, order)
+        judge(alloc, v, ordered)
     } else {
         Ok(Judged::Unasked)
     }
@@ -121,29 +118,28 @@ fn machine_after(v: Variant, image: Image, steps: u64) -> Machine
 /// for. If the theorem covers the run, nothing differs.
 pub fn run_outcome(alloc: Global, request: OutcomeRequest, image: Image) -> Result<Outcome, Memory>
     requires limit { request.limit < 2 ^ 63 }
-    requires bound { IsBound pipe_rows request.design.terms }
-    requires order { IsOrderOf pipe_rows request.design.terms request.order.ids }
-    ensures outcome { IfOk result (IsOutcome request.variant request.design.terms request.order.ids image request.limit) }
+    requires bound { IsBound pipe_rows request.ordered.design.terms }
+    requires order { IsOrderOf pipe_rows request.ordered.design.terms request.ordered.order.ids }
+    ensures outcome { IfOk result (IsOutcome request.variant request.ordered.design.terms request.ordered.order.ids image request.limit) }
     ensures asked { IfOk result (λ o. (request.checked ≡ true) ↔ (o.judged ≢ Judged.Unasked)) }
     ensures covered { IfOk result (λ o. spec.is_covered o.judged o.watched ≡ true → FindsNone o.compared) }
 {
     let OutcomeRequest {
         variant,
-        design,
-        order,
+        ordered,
         limit,
         checked,
     } = request;
     // (brings what holds of every image: its size is bounded)
     let _size = image.size();
-    let judged = judge_if(alloc, checked, variant, &design, &order)?;
+    let judged = judge_if(alloc, checked, variant, &ordered)?;
     let Ok(watched) = image.copy(alloc) else {
         return Err(Memory);
     };
     let Ok(stepped) = image.copy(alloc) else {
         return Err(Memory);
     };
-    let compared = compare(alloc, variant, design, order, image, limit)?;
+    let compared = compare(alloc, variant, ordered, image, limit)?;
     let machine = machine_after(variant, stepped, right_count(&compared));
     let watched = watch(variant, watched, limit);
     Ok(Outcome {
@@ -163,10 +159,10 @@ pub fn object_outcome(
 ) -> Result<Outcome, YoFault>
     requires size { IsSize size }
     requires limit { request.limit < 2 ^ 63 }
-    requires bound { IsBound pipe_rows request.design.terms }
-    requires order { IsOrderOf pipe_rows request.design.terms request.order.ids }
+    requires bound { IsBound pipe_rows request.ordered.design.terms }
+    requires order { IsOrderOf pipe_rows request.ordered.design.terms request.ordered.order.ids }
     ensures outcome { IfOk result (λ o. (image : List ℕ) × (object_of object.now size ≡ Ok image)
-        × IsOutcome request.variant request.design.terms request.order.ids image request.limit o) }
+        × IsOutcome request.variant request.ordered.design.terms request.ordered.order.ids image request.limit o) }
     ensures asked { IfOk result (λ o. (request.checked ≡ true) ↔ (o.judged ≢ Judged.Unasked)) }
     ensures covered { IfOk result (λ o. spec.is_covered o.judged o.watched ≡ true → FindsNone o.compared) }
     ensures fault { IfErr result (λ fault. (fault ≡ out_of_memory) ⊎ (object_of object.now size ≡ Err fault)) }

@@ -11,7 +11,7 @@ ghost use Rattle.seq_text.specs.Observer.{Shows, ShowsRun, shown};
 use crate::shown::{ShownDatapath, finished, put_number};
 use dp_machines::is_aok_stat;
 use dp_sequential::{constants_in, solve_in};
-use dp_signals::{OrderedDesign, constant_words};
+use dp_signals::constant_words;
 use hcl_types::SignalEval;
 use pipe_stage_text::{CycleRange, ObservedRun, ProcessorDesign, WatchRequest, is_within};
 use std::alloc::Global;
@@ -44,13 +44,13 @@ fn put_shown<S: ShownDatapath>(
     values: &[u64],
 ) -> Result<(), Memory>
     ensures { OnOk result (out.new.items ≡ out.old.items
-        ++ shown window.now number (S.text.lines s.now (at values.now) (S.text.sources processor.now.rows.now processor.now.design.now.terms (at values.now)))) }
+        ++ shown window.now number (S.text.lines s.now (at values.now) (S.text.sources processor.now.rows.now processor.now.ordered.now.design.terms (at values.now)))) }
 {
     if !is_within(window, number) {
         return Ok(());
     }
     put_number(out, number)?;
-    let sources = S::sources(processor.rows, processor.design, values);
+    let sources = S::sources(processor.rows, &processor.ordered.design, values);
     s.put_lines(out, values, &sources)
 }
 
@@ -65,25 +65,21 @@ fn cycle<S: ShownDatapath, C: SignalEval, const N: usize>(
     number: u64,
 ) -> Result<(), Memory>
     requires table { processor.now.rows.now ≡ S.path.table }
-    requires evaluates { C.evaluates evaluator.old processor.now.design.now.terms }
+    requires evaluates { C.evaluates evaluator.old processor.now.ordered.now.design.terms }
     requires fits { IsTrue fits → Starts (C.assumes evaluator.old) constants }
-    requires bound { IsBound S.path.table processor.now.design.now.terms }
-    requires ordered { IsOrderOf S.path.table processor.now.design.now.terms processor.now.order.now.ids }
+    requires bound { IsBound S.path.table processor.now.ordered.now.design.terms }
+    requires ordered { IsOrderOf S.path.table processor.now.ordered.now.design.terms processor.now.ordered.now.order.ids }
     requires size { N ≡ S.path.count }
     requires constants { constant_count ≤ N }
-    ensures kept { OnOk result (C.evaluates evaluator.new processor.now.design.now.terms) }
+    ensures kept { OnOk result (C.evaluates evaluator.new processor.now.ordered.now.design.terms) }
     ensures same { OnOk result (C.assumes evaluator.new ≡ C.assumes evaluator.old) }
-    ensures cycle { OnOk result ((lines : List ℕ) × Shows S.path S.text processor.now.variant processor.now.design.now.terms s.old.state lines s.new.state
+    ensures cycle { OnOk result ((lines : List ℕ) × Shows S.path S.text processor.now.variant processor.now.ordered.now.design.terms s.old.state lines s.new.state
         × (s.new.text.items ≡ s.old.text.items ++ shown window.now number lines)) }
 {
     let mut values: [u64; N] = constants_in();
-    let ordered = OrderedDesign {
-        design: processor.design,
-        order: processor.order,
-    };
     solve_in(
         processor.variant,
-        ordered,
+        processor.ordered,
         &s.state,
         evaluator,
         fits,
@@ -103,13 +99,13 @@ pub fn watch_sequential<S: ShownDatapath, C: SignalEval, const N: usize>(
     request: WatchRequest,
 ) -> Result<ObservedRun, Memory>
     requires table { processor.now.rows.now ≡ S.path.table }
-    requires evaluates { C.evaluates evaluator.old processor.now.design.now.terms }
-    requires bound { IsBound S.path.table processor.now.design.now.terms }
-    requires ordered { IsOrderOf S.path.table processor.now.design.now.terms processor.now.order.now.ids }
+    requires evaluates { C.evaluates evaluator.old processor.now.ordered.now.design.terms }
+    requires bound { IsBound S.path.table processor.now.ordered.now.design.terms }
+    requires ordered { IsOrderOf S.path.table processor.now.ordered.now.design.terms processor.now.ordered.now.order.ids }
     requires size { N ≡ S.path.count }
     requires constants { constant_count ≤ N }
     requires limit { request.limit ≤ 100000000 }
-    ensures { IfOk result (λ w. ShowsRun (Shows S.path S.text processor.now.variant processor.now.design.now.terms) S.path.stat
+    ensures { IfOk result (λ w. ShowsRun (Shows S.path S.text processor.now.variant processor.now.ordered.now.design.terms) S.path.stat
         request.window (S.path.start request.image) request.limit w.text.items w.end) }
 {
     let WatchRequest {

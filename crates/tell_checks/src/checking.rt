@@ -8,21 +8,21 @@ use control_check::CheckFault;
 use ctl_atoms::CtlFault;
 use explanations::Path;
 use finding_text::{CasePlace, ExplainedFile, name_of};
-use hcl_types::Row;
+use hcl_types::{BoundDesign, Row};
 use seq_requirements::Datapath;
 use std::alloc::{AllocError, Global};
-use tell_faults::{HCL_LIMIT, Ordered, Said, Stop, design_of, fault_stop, unread};
+use tell_faults::{HCL_LIMIT, Said, Stop, design_of, fault_stop, unread};
 use tell_words::CheckQuestion;
 use wb_io::Files;
 
 /// What the findings on the file of a design are explained with.
-fn explained_file<'a>(ordered: &'a Ordered, cases: &'a [CasePlace<'a>]) -> ExplainedFile<'a>
-    ensures rows { result.rows.now ≡ ordered.now.table.rows }
-    ensures terms { result.terms.now ≡ ordered.now.design.terms }
+fn explained_file<'a>(bound: &'a BoundDesign, cases: &'a [CasePlace<'a>]) -> ExplainedFile<'a>
+    ensures rows { result.rows.now ≡ bound.now.table.rows }
+    ensures terms { result.terms.now ≡ bound.now.ordered.design.terms }
 {
     ExplainedFile {
-        rows: ordered.table.rows.items(),
-        terms: ordered.design.terms.items(),
+        rows: bound.table.rows.items(),
+        terms: bound.ordered.design.terms.items(),
         cases,
     }
 }
@@ -62,16 +62,16 @@ pub fn check<F: Files>(
         Ok(source) => source,
         Err(error) => return Err(unread(error)),
     };
-    let ordered = match design_of(alloc, asked.path, source.as_slice()) {
-        Ok(ordered) => ordered,
+    let bound = match design_of(alloc, asked.path, source.as_slice()) {
+        Ok(bound) => bound,
         Err(fault) => return Err(fault_stop(alloc, hcl, source.as_slice(), asked.path, &fault)),
     };
     let cases = case_places(alloc, source.as_slice())?;
-    let file = explained_file(&ordered, cases.as_slice());
+    let file = explained_file(&bound, cases.as_slice());
     let said = match asked.path {
-        Path::Pipe => explain_pipe(alloc, asked, &ordered, &file),
-        Path::Seq => explain_sequential(alloc, Datapath::Seq, asked, &ordered, &file),
-        Path::SeqPlus => explain_sequential(alloc, Datapath::Plus, asked, &ordered, &file),
+        Path::Pipe => explain_pipe(alloc, asked, &bound, &file),
+        Path::Seq => explain_sequential(alloc, Datapath::Seq, asked, &bound, &file),
+        Path::SeqPlus => explain_sequential(alloc, Datapath::Plus, asked, &bound, &file),
     };
     match said {
         Ok(said) => Ok(said),

@@ -1,28 +1,34 @@
 //! `check pipe`: the verdict on a design for PIPE, explained.
 ghost use Rattle.std.specs.Prelude.{◌≡◌, ◌↔◌, IfOk, true};
+ghost use Rattle.dp_signals.specs.PipeTable.{pipe_rows};
+ghost use Rattle.hcl_types.specs.Tables.{IsBoundDesign};
 ghost use Rattle.pipe_refusals.specs.Answered.{is_yes};
-ghost use Rattle.tell_faults.specs.Designs.{IsOrdered};
 ghost use Rattle.tell_checks.specs.Explained.{Answers};
 
 use crate::yes::put_yes_facts;
 use control_check::CheckFault;
 use finding_text::{ExplainedFile, names_iaddq, put_unasked};
+use hcl_types::BoundDesign;
 use json::Writer;
 use pipe_diagnosis::Refusal;
 use pipe_motion::Settings;
 use pipe_refusals::{PipeAnswer, diagnose_pipe};
 use refusal_text::{put_refusal, put_refusal_json, put_settings, put_settings_json};
 use std::alloc::{AllocError, Global};
-use tell_faults::{Ordered, Said, json_text};
+use tell_faults::{Said, json_text};
 use tell_words::CheckQuestion;
 use y86_base::Variant;
 
 /// The verdict on a design, and the diagnosis of a refusal.
-fn answer_pipe(alloc: Global, variant: Variant, ordered: &Ordered) -> Result<PipeAnswer, CheckFault>
-    requires { IsOrdered ordered.now }
-    ensures { IfOk result (Answers variant ordered.now.design.terms) }
+fn answer_pipe(
+    alloc: Global,
+    variant: Variant,
+    bound: &BoundDesign,
+) -> Result<PipeAnswer, CheckFault>
+    requires { IsBoundDesign pipe_rows bound.now }
+    ensures { IfOk result (Answers variant bound.now.ordered.design.terms) }
 {
-    diagnose_pipe(alloc, variant, &ordered.design, &ordered.order)
+    diagnose_pipe(alloc, variant, &bound.ordered)
 }
 
 /// The output for an accepted file.
@@ -90,12 +96,12 @@ fn answer_text(
 pub fn explain_pipe(
     alloc: Global,
     asked: CheckQuestion,
-    ordered: &Ordered,
+    bound: &BoundDesign,
     file: &ExplainedFile<'_>,
 ) -> Result<Said, CheckFault>
-    requires { IsOrdered ordered.now }
+    requires { IsBoundDesign pipe_rows bound.now }
 {
-    let answer = answer_pipe(alloc, asked.variant, ordered)?;
+    let answer = answer_pipe(alloc, asked.variant, bound)?;
     match answer_text(alloc, asked, file, &answer) {
         Ok(said) => Ok(said),
         Err(_) => Err(CheckFault::Memory),

@@ -1,20 +1,21 @@
 //! `check seq` and `check seqplus`: the verdict on a design for SEQ or SEQ+, explained.
 ghost use Rattle.std.specs.Prelude.{◌≡◌, ◌↔◌, IfOk, true};
+ghost use Rattle.hcl_types.specs.Tables.{IsBoundDesign};
 ghost use Rattle.seq_refusals.specs.Answered.{is_yes};
 ghost use Rattle.seq_requirements.specs.Datapaths.{rows_of};
-ghost use Rattle.tell_faults.specs.Designs.{IsOrderedOver};
 ghost use Rattle.tell_checks.specs.Explained.{SeqAnswers};
 
 use crate::yes::put_yes_facts;
 use control_check::CheckFault;
 use finding_text::{ExplainedFile, names_iaddq, put_unasked};
+use hcl_types::BoundDesign;
 use json::Writer;
 use seq_diagnosis::Refusal;
 use seq_refusal_text::{put_seq_refusal, put_seq_refusal_json, put_seq_yes};
 use seq_refusals::{SeqAnswer, diagnose_seq};
 use seq_requirements::Datapath;
 use std::alloc::{AllocError, Global};
-use tell_faults::{Ordered, Said, json_text};
+use tell_faults::{Said, json_text};
 use tell_words::CheckQuestion;
 use y86_base::Variant;
 
@@ -23,12 +24,12 @@ fn answer_sequential(
     alloc: Global,
     which: Datapath,
     variant: Variant,
-    ordered: &Ordered,
+    bound: &BoundDesign,
 ) -> Result<SeqAnswer, CheckFault>
-    requires { IsOrderedOver (rows_of which) ordered.now }
-    ensures { IfOk result (SeqAnswers which variant ordered.now.design.terms) }
+    requires { IsBoundDesign (rows_of which) bound.now }
+    ensures { IfOk result (SeqAnswers which variant bound.now.ordered.design.terms) }
 {
-    diagnose_seq(alloc, which, variant, &ordered.design, &ordered.order)
+    diagnose_seq(alloc, which, variant, &bound.ordered)
 }
 
 /// The output for an accepted file.
@@ -97,12 +98,12 @@ pub fn explain_sequential(
     alloc: Global,
     which: Datapath,
     asked: CheckQuestion,
-    ordered: &Ordered,
+    bound: &BoundDesign,
     file: &ExplainedFile<'_>,
 ) -> Result<Said, CheckFault>
-    requires { IsOrderedOver (rows_of which) ordered.now }
+    requires { IsBoundDesign (rows_of which) bound.now }
 {
-    let answer = answer_sequential(alloc, which, asked.variant, ordered)?;
+    let answer = answer_sequential(alloc, which, asked.variant, bound)?;
     match answer_text(alloc, which, asked, file, &answer) {
         Ok(said) => Ok(said),
         Err(_) => Err(CheckFault::Memory),

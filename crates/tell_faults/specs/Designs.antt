@@ -5,13 +5,11 @@ use Rattle.explanations.specs.declared.obligations.Path.TheVariants.{Seq, SeqPlu
 use Rattle.hcl_read.specs.Read.{ReadsAs}
 use Rattle.hcl_tree.specs.declared.tree.File.{File}
 use Rattle.hcl_binding.specs.Binding.{bound}
-use Rattle.hcl_types.specs.Tables.{IsBound, IsOrderOf}
 use Rattle.hcl_types.specs.declared.table.Row.{Row}
 use Rattle.hcl_types.specs.declared.term.Term.{Term}
 use Rattle.dp_signals.specs.PipeTable.{pipe_rows}
 use Rattle.dp_signals.specs.SeqTable.{seq_rows}
 use Rattle.seq_plus.specs.PlusTable.{plus_rows}
-use Rattle.tell_faults.specs.declared.designs.Ordered.{Ordered}
 
 -- the table of signals of a datapath
 abbrev pub rows_of : Path → List Row
@@ -25,15 +23,6 @@ pub record HasDesignOver (rows : List Row) (text : List ℕ) (terms : List Term)
   pub reads : ReadsAs text file
   pub binds : bound rows file.items ≡ Ok terms
 
--- a design over a table, with an order of its signals
-pub record IsOrderedOver (rows : List Row) (ordered : Ordered) : Type 0 where
-  pub table : ordered.table.rows ≡ rows
-  pub bound : IsBound rows ordered.design.terms
-  pub order : IsOrderOf rows ordered.design.terms ordered.order.ids
-
--- both over PIPE's table
+-- the same over PIPE's table
 abbrev pub HasDesign : List ℕ → List Term → Type 0
 HasDesign text terms = HasDesignOver pipe_rows text terms
-
-abbrev pub IsOrdered : Ordered → Type 0
-IsOrdered ordered = IsOrderedOver pipe_rows ordered

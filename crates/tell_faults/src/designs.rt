@@ -1,7 +1,7 @@
 //! The design of an HCL text, or why there is none.
 ghost use Rattle.std.specs.Prelude.{IfOk};
-ghost use Rattle.hcl_types.specs.Tables.{IsSound};
-ghost use Rattle.tell_faults.specs.Designs.{HasDesignOver, IsOrderedOver, rows_of};
+ghost use Rattle.hcl_types.specs.Tables.{IsBoundDesign, IsSound};
+ghost use Rattle.tell_faults.specs.Designs.{HasDesignOver, rows_of};
 
 use crate::datapaths::table_of;
 use crate::faulty::{hcl_faults_of, report_stop};
@@ -10,16 +10,8 @@ use explanations::Path;
 use hcl_binding::{BindWhy, bind};
 use hcl_order::{OrderFault, order};
 use hcl_read::{HclWhy, read};
-use hcl_types::{Design, Order, Table};
+use hcl_types::{BoundDesign, OrderedDesign, Table};
 use std::alloc::Global;
-
-/// A table, a design over it, and an order of the design's signals.
-#[derive(Drop)]
-pub struct Ordered {
-    pub table: Table,
-    pub design: Design,
-    pub order: Order,
-}
 
 /// Why a text has no design.
 #[derive(Clone, Copy, Debug, PartialEq, Eq)]
@@ -31,10 +23,10 @@ pub enum NoDesign {
 }
 
 /// The design of an HCL text over a table.
-fn design_over(alloc: Global, source: &[u8], table: Table) -> Result<Ordered, NoDesign>
+fn design_over(alloc: Global, source: &[u8], table: Table) -> Result<BoundDesign, NoDesign>
     requires { IsSound table.rows }
-    ensures design { IfOk result (λ ordered. HasDesignOver table.rows source.now ordered.design.terms) }
-    ensures ordered { IfOk result (IsOrderedOver table.rows) }
+    ensures design { IfOk result (λ bound. HasDesignOver table.rows source.now bound.ordered.design.terms) }
+    ensures ordered { IfOk result (IsBoundDesign table.rows) }
 {
     let file = match read(alloc, source) {
         Ok(file) => file,
@@ -55,10 +47,9 @@ fn design_over(alloc: Global, source: &[u8], table: Table) -> Result<Ordered, No
         }
     };
     match order(alloc, &design, &table) {
-        Ok(order) => Ok(Ordered {
+        Ok(order) => Ok(BoundDesign {
             table,
-            design,
-            order,
+            ordered: OrderedDesign { design, order },
         }),
         Err(OrderFault::Cycle(_)) => Err(NoDesign::Refused),
         Err(OrderFault::Memory) => Err(NoDesign::Memory),
@@ -66,9 +57,9 @@ fn design_over(alloc: Global, source: &[u8], table: Table) -> Result<Ordered, No
 }
 
 /// The design of an HCL text for a datapath.
-pub fn design_of(alloc: Global, path: Path, source: &[u8]) -> Result<Ordered, NoDesign>
-    ensures design { IfOk result (λ ordered. HasDesignOver (rows_of path) source.now ordered.design.terms) }
-    ensures ordered { IfOk result (IsOrderedOver (rows_of path)) }
+pub fn design_of(alloc: Global, path: Path, source: &[u8]) -> Result<BoundDesign, NoDesign>
+    ensures design { IfOk result (λ bound. HasDesignOver (rows_of path) source.now bound.ordered.design.terms) }
+    ensures ordered { IfOk result (IsBoundDesign (rows_of path)) }
 {
     match table_of(alloc, path) {
         Ok(table) => design_over(alloc, source, table),

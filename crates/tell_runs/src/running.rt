@@ -7,15 +7,15 @@ ghost use Rattle.tell_runs.specs.Running.{IsRun};
 
 use explanations::Path;
 use fault_report::is_source;
-use hcl_types::{Row, Table};
+use hcl_types::{BoundDesign, Row, Table};
 use json::Writer;
 use run_report::{
     Judged, Outcome, OutcomeRequest, object_outcome, outcome_status, put_outcome, put_outcome_json,
 };
 use std::alloc::{AllocError, Global};
 use tell_faults::{
-    HCL_LIMIT, NoDesign, OBJECT_LIMIT, Ordered, Said, Stop, design_of, fault_stop, json_text,
-    object_stop, text_stop, unread,
+    HCL_LIMIT, NoDesign, OBJECT_LIMIT, Said, Stop, design_of, fault_stop, json_text, object_stop,
+    text_stop, unread,
 };
 use tell_words::RunQuestion;
 use wb_io::Files;
@@ -44,22 +44,17 @@ fn run_texts(alloc: Global, source: &[u8], object: &[u8], asked: &RunQuestion) -
     ensures run { IfOk result (λ run. IsRun asked.now.variant source.now object.now asked.now.size asked.now.limit run.outcome) }
     ensures asked { IfOk result (λ run. (asked.now.checked ≡ true) ↔ (run.outcome.judged ≢ Judged.Unasked)) }
 {
-    let ordered = match design_of(alloc, Path::Pipe, source) {
-        Ok(ordered) => ordered,
+    let bound = match design_of(alloc, Path::Pipe, source) {
+        Ok(bound) => bound,
         Err(fault) => return Err(NoRun::Design(fault)),
     };
     if is_source(object) {
         return Err(NoRun::Source);
     }
-    let Ordered {
-        table,
-        design,
-        order,
-    } = ordered;
+    let BoundDesign { table, ordered } = bound;
     let request = OutcomeRequest {
         variant: asked.variant,
-        design,
-        order,
+        ordered,
         limit: asked.limit,
         checked: asked.checked,
     };

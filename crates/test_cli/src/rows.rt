@@ -53,10 +53,10 @@ fn transcript(alloc: Global, done: &Done) -> Result<String, AllocError> {
 
 /// The answer of `accept_pipe` to a design: its setting `lf`, or that it isn't accepted.
 fn accepted(alloc: Global, text: &[u8]) -> &'static str {
-    let Ok(ordered) = pipe_design(alloc, "h.hcl", text) else {
+    let Ok(bound) = pipe_design(alloc, "h.hcl", text) else {
         return "no design\n";
     };
-    match accept_pipe(alloc, Variant::Base, &ordered.design, &ordered.order) {
+    match accept_pipe(alloc, Variant::Base, &bound.ordered) {
         Ok(Some(accepted)) => {
             if accepted.settings().lf {
                 "accepted, lf=1\n"

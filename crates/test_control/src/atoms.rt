@@ -4,6 +4,7 @@ use dp_signals::{law_of_tables, pipe_row as row, pipe_table};
 use hcl_binding::bind;
 use hcl_order::order;
 use hcl_read::read;
+use hcl_types::OrderedDesign;
 use std::alloc::Global;
 use std::process::Abort;
 use std::test::Fail;
@@ -152,8 +153,9 @@ fn atoms_of(alloc: Global, file: &[u8]) -> Result<Result<Vec<Atom>, CtlFault>, F
     law_of_tables();
     let file = read(alloc, file)?;
     let design = bind(alloc, &file, &table)?;
-    let ordered = order(alloc, &design, &table)?;
-    Ok(atoms(alloc, &design, &table, &ordered))
+    let order = order(alloc, &design, &table)?;
+    let ordered = OrderedDesign { design, order };
+    Ok(atoms(alloc, &ordered, &table))
 }
 
 /// The atoms of PIPE under definitions, with 0 for all others.

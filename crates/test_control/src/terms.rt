@@ -10,7 +10,7 @@ use dp_signals::{law_of_tables, seq_row as row, seq_table};
 use hcl_binding::bind;
 use hcl_order::order;
 use hcl_read::read;
-use hcl_types::{Design, Order};
+use hcl_types::OrderedDesign;
 use net_fields::BitRange;
 use nets::{Net, NetBuilder, Valuation, eval};
 use seq_obligations::{BIT_COUNT, LINE, places};
@@ -94,21 +94,21 @@ struct Told {
 }
 
 /// The net of a design: the fields first, then the atoms.
-fn translated(alloc: Global, d: &Design, o: &Order) -> Result<Told, Memory>
-    requires bound { IsBound seq_rows d.now.terms }
-    requires ordered { IsOrderOf seq_rows d.now.terms o.now.ids }
+fn translated(alloc: Global, ordered: &OrderedDesign) -> Result<Told, Memory>
+    requires bound { IsBound seq_rows ordered.now.design.terms }
+    requires ordered { IsOrderOf seq_rows ordered.now.design.terms ordered.now.order.ids }
     ensures { IfOk result (λ r. r.gate < length r.net.gates) }
 {
     let t = match seq_table(alloc) {
         Ok(t) => t,
         Err(_) => return Err(Memory),
     };
-    let listed = match atoms(alloc, d, &t, o) {
+    let listed = match atoms(alloc, ordered, &t) {
         Ok(listed) => listed,
         Err(_) => return Err(Memory),
     };
     let mut b = NetBuilder::new(alloc, BIT_COUNT + listed.len() as u32);
-    match translate(alloc, d, &t, o, places(), &mut b) {
+    match translate(alloc, ordered, &t, places(), &mut b) {
         Ok(ctl) => {
             let gate = ctl.truth(row::SET_CC);
             let net = b.finish();
@@ -179,7 +179,7 @@ fn compared(alloc: Global, number: usize, words: &[u8], definition: &[u8]) -> Re
     let file = read(alloc, text.as_slice())?;
     let design = bind(alloc, &file, &table)?;
     let order = order(alloc, &design, &table)?;
-    let told = translated(alloc, &design, &order)?;
+    let told = translated(alloc, &OrderedDesign { design, order })?;
     Ok(differences(alloc, number, &told)?)
 }
 

@@ -6,7 +6,7 @@ use hcl_binding::bind;
 use hcl_compile::{Ask, Node, ROWS, compile};
 use hcl_order::order;
 use hcl_read::read;
-use hcl_types::{NameId, Term};
+use hcl_types::{NameId, OrderedDesign, Term};
 use std::test::Fail;
 use test_designs::Example;
 
@@ -60,8 +60,9 @@ fn a_definition_has_its_nodes(rt: HostRuntime) -> Result<(), Fail> {
     let text = Example::Std.zeros(rt.alloc(), F_PC)?;
     let file = read(rt.alloc(), text.as_slice())?;
     let design = bind(rt.alloc(), &file, &table)?;
-    let ordered = order(rt.alloc(), &design, &table)?;
-    let compiled = compile(rt.alloc(), &design, &ordered, &constant_words())?;
+    let order = order(rt.alloc(), &design, &table)?;
+    let ordered = OrderedDesign { design, order };
+    let compiled = compile(rt.alloc(), &ordered, &constant_words())?;
     let mut first = code(46, 9, 0, ROWS + 54);
     first.next[7] = 3;
     let nodes = [

@@ -2,12 +2,12 @@
 ghost use Rattle.std.specs.Prelude.{◌≡◌};
 ghost use Rattle.dp_signals.specs.PipeTable.{pipe_rows};
 
-use dp_signals::{OrderedDesign, PipeState, constant_words, law_of_tables, pipe_table, solve_pipe};
+use dp_signals::{PipeState, constant_words, law_of_tables, pipe_table, solve_pipe};
 use hcl_binding::bind;
 use hcl_compile::compile;
 use hcl_order::order;
 use hcl_read::read;
-use hcl_types::{Plain, Table};
+use hcl_types::{OrderedDesign, Plain, Table};
 use std::process::Abort;
 use std::test::Fail;
 use test_designs::Example;
@@ -100,18 +100,16 @@ fn values(
     let text = Example::Std.with(rt.alloc(), added.as_slice())?;
     let file = read(rt.alloc(), text.as_slice())?;
     let design = bind(rt.alloc(), &file, table)?;
-    let ids = order(rt.alloc(), &design, table)?;
+    let order = order(rt.alloc(), &design, table)?;
+    let ordered = OrderedDesign { design, order };
     let mut state = PipeState::start(Image::new(rt.alloc(), 64)?);
     state.w.val_e = x;
     state.w.val_m = y;
     state.m.cnd = cnd;
-    let ordered = OrderedDesign {
-        design: &design,
-        order: &ids,
-    };
-    let walked = solve_pipe(Variant::Base, ordered, &state, &mut Plain::new(&design));
-    let mut compiled = compile(rt.alloc(), &design, &ids, &constant_words())?;
-    let run = solve_pipe(Variant::Base, ordered, &state, &mut compiled);
+    let mut plain = Plain::new(&ordered.design);
+    let walked = solve_pipe(Variant::Base, &ordered, &state, &mut plain);
+    let mut compiled = compile(rt.alloc(), &ordered, &constant_words())?;
+    let run = solve_pipe(Variant::Base, &ordered, &state, &mut compiled);
     Ok((walked[114], run[114]))
 }
 

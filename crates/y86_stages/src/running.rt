@@ -1,20 +1,22 @@
 //! Runs an object file on a processor under an HCL file, and shows its cycles.
 ghost use Rattle.std.specs.Prelude.{◌≡◌, ◌≤◌, IfOk};
+ghost use Rattle.hcl_types.specs.Tables.{IsBoundDesign};
 ghost use Rattle.y86_base.specs.Image.{IsSize};
 ghost use Rattle.pipe_stage_text.specs.Listed.{listed};
 ghost use Rattle.cli_plans.specs.Stages.{hcl_limit};
-ghost use Rattle.cli_plans.specs.Designs.{IsDesign, IsOrdered, RefusesDesign};
+ghost use Rattle.cli_plans.specs.Designs.{IsDesign, RefusesDesign};
 ghost use Rattle.cli_plans.specs.PlanFollowing.{FollowsPlanOver, IsReadResultIn, WritesAnswer, files_state, sink_state};
 ghost use Rattle.y86_stages.specs.ShowAnswers.{ShownAnswers, Shows, object_plan, rows_of, stages_plan};
 
 use crate::reading::Processor;
 use crate::request::ShowRequest;
 use cli_plans::{
-    Datapath, FILE_LIMIT, OrderedDesign, StopReason, load_image, pipe_file, read_file, seq_file,
-    status, write_answer,
+    Datapath, FILE_LIMIT, StopReason, load_image, pipe_file, read_file, seq_file, status,
+    write_answer,
 };
 use dp_signals::{SEQ_ROWS, SeqState, constant_words};
 use hcl_compile::compile;
+use hcl_types::BoundDesign;
 use pipe_stage_text::{ObservedRun, ProcessorDesign, WatchRequest, watch_run};
 use seq_plus::{PLUS_ROWS, PlusState};
 use seq_text::watch_sequential;
@@ -28,10 +30,10 @@ fn design_file<'a, F: Files>(
     processor: Processor,
     name: &'a str,
     files: &mut F,
-) -> Result<OrderedDesign, StopReason<'a>>
-    ensures design { IsReadResultIn name.now hcl_limit (IsDesign (rows_of processor)) (RefusesDesign name.now (rows_of processor)) (λ ordered. ordered.design.terms)
+) -> Result<BoundDesign, StopReason<'a>>
+    ensures design { IsReadResultIn name.now hcl_limit (IsDesign (rows_of processor)) (RefusesDesign name.now (rows_of processor)) (λ bound. bound.ordered.design.terms)
         (files_state (F.told files.old) (F.faults files.old)) (files_state (F.told files.new) (F.faults files.new)) result }
-    ensures ordered { IfOk result (IsOrdered (rows_of processor)) }
+    ensures ordered { IfOk result (IsBoundDesign (rows_of processor)) }
 {
     match processor {
         Processor::Pipe => pipe_file(alloc, name, files),
@@ -45,23 +47,22 @@ fn design_file<'a, F: Files>(
 fn watch(
     alloc: Global,
     request: ShowRequest<'_>,
-    ordered: &OrderedDesign,
+    bound: &BoundDesign,
     object: &[u8],
     image: Image,
 ) -> Result<ObservedRun, Memory>
-    requires ordered { IsOrdered (rows_of request.processor) ordered.now }
+    requires ordered { IsBoundDesign (rows_of request.processor) bound.now }
     requires limit { request.run.limit ≤ 100000000 }
-    ensures { IfOk result (λ w. Shows request.entry.processor request.entry.run.variant ordered.now.design.terms (listed object.now)
+    ensures { IfOk result (λ w. Shows request.entry.processor request.entry.run.variant bound.now.ordered.design.terms (listed object.now)
         request.entry.run.limit request.entry.window image w.text.items w.end) }
 {
-    let Ok(mut compiled) = compile(alloc, &ordered.design, &ordered.order, &constant_words()) else {
+    let Ok(mut compiled) = compile(alloc, &bound.ordered, &constant_words()) else {
         return Err(Memory);
     };
     let processor = ProcessorDesign {
         variant: request.run.variant,
-        rows: ordered.table.rows.items(),
-        design: &ordered.design,
-        order: &ordered.order,
+        rows: bound.table.rows.items(),
+        ordered: &bound.ordered,
     };
     let watched = WatchRequest {
         image,
@@ -83,18 +84,18 @@ fn watch(
 fn show_image<'a, O: Sink>(
     alloc: Global,
     request: ShowRequest<'_>,
-    ordered: &OrderedDesign,
+    bound: &BoundDesign,
     object: &[u8],
     image: Image,
     out: &mut O,
 ) -> Result<u8, StopReason<'a>>
-    requires ordered { IsOrdered (rows_of request.processor) ordered.now }
+    requires ordered { IsBoundDesign (rows_of request.processor) bound.now }
     requires limit { request.run.limit ≤ 100000000 }
-    ensures { WritesAnswer (ShownAnswers request.entry.processor request.entry.run.variant ordered.now.design.terms (listed object.now)
+    ensures { WritesAnswer (ShownAnswers request.entry.processor request.entry.run.variant bound.now.ordered.design.terms (listed object.now)
         request.entry.run.limit request.entry.window image)
         (sink_state (O.taken out.old) (O.faults out.old)) (sink_state (O.taken out.new) (O.faults out.new)) result }
 {
-    match watch(alloc, request, ordered, object, image) {
+    match watch(alloc, request, bound, object, image) {
         Ok(watched) => write_answer(status(watched.end), watched.text.as_slice(), out),
         Err(_) => Err(StopReason::Memory),
     }
@@ -104,14 +105,14 @@ fn show_image<'a, O: Sink>(
 fn show_object<'a, F: Files, O: Sink>(
     alloc: Global,
     request: ShowRequest<'a>,
-    ordered: &OrderedDesign,
+    bound: &BoundDesign,
     files: &mut F,
     out: &mut O,
 ) -> Result<u8, StopReason<'a>>
     requires size { IsSize request.run.memory }
     requires limit { request.run.limit ≤ 100000000 }
-    requires ordered { IsOrdered (rows_of request.processor) ordered.now }
-    ensures { FollowsPlanOver F.told F.faults O.taken O.faults (object_plan request.entry.processor ordered.now.design.terms
+    requires ordered { IsBoundDesign (rows_of request.processor) bound.now }
+    ensures { FollowsPlanOver F.told F.faults O.taken O.faults (object_plan request.entry.processor bound.now.ordered.design.terms
         request.entry.run.object.now request.entry.run.memory request.entry.run.limit request.entry.run.variant request.entry.window)
         files.old files.new out.old out.new result }
 {
@@ -125,7 +126,7 @@ fn show_object<'a, F: Files, O: Sink>(
         Ok(image) => image,
         Err(stop) => return Err(stop),
     };
-    show_image(alloc, request, ordered, object, image, out)
+    show_image(alloc, request, bound, object, image, out)
 }
 
 /// Reads an HCL file and an object file, and shows the run.
@@ -141,9 +142,9 @@ pub fn show<'a, F: Files, O: Sink>(
         request.entry.run.object.now request.entry.run.memory request.entry.run.limit request.entry.run.variant request.entry.window)
         files.old files.new out.old out.new result }
 {
-    let ordered = match design_file(alloc, request.processor, request.run.hcl, files) {
-        Ok(ordered) => ordered,
+    let bound = match design_file(alloc, request.processor, request.run.hcl, files) {
+        Ok(bound) => bound,
         Err(stop) => return Err(stop),
     };
-    show_object(alloc, request, &ordered, files, out)
+    show_object(alloc, request, &bound, files, out)
 }

@@ -9,5 +9,5 @@ returns-in-Err g c = read_stage_stops _ _ _ _ _ _ _ _ _ c.in-Err.ensures.design
 pub returns : goal.returns
 unfolding aig_plan
 returns g c =
-    read_stage_goes_on _ _ _ _ c.in-Ok.ordered.design.terms _ _ _ _ _ _ _ c.in-Ok.ensures.design
+    read_stage_goes_on _ _ _ _ c.in-Ok.bound.ordered.design.terms _ _ _ _ _ _ _ c.in-Ok.ensures.design
     (said _ _ _ _ _ c.say_obligations.ensures)

@@ -17,5 +17,5 @@ first_false-requires-clause-gates c = λ k x at. (c.in-Ok.ensures.rules.are_rule
 
 pub returns-in-Ok-first_false-clause-found : goal.returns-in-Ok-first_false-clause-found
 returns-in-Ok-first_false-clause-found c =
-    sampled c.args.request.variant c.args.ordered.now.design.terms c.args.ordered.now.order.ids c.requires.order c.in-Ok.rules c.in-Ok.ensures.rules c.args.request.seed c.args.request.count
+    sampled c.args.request.variant c.args.bound.now.ordered.design.terms c.args.bound.now.ordered.order.ids c.requires.order c.in-Ok.rules c.in-Ok.ensures.rules c.args.request.seed c.args.request.count
     c.in-Ok-first_false.found c.in-Ok-first_false.ensures

@@ -2,11 +2,11 @@ use Rattle.std.proofs.Common.{List}
 use Rattle.dp_signals.specs.PipeTable.{pipe_rows}
 use Rattle.hcl_types.specs.declared.term.Term.{Term}
 use Rattle.cli_plans.specs.Designs.{IsDesign, RefusesDesign}
-use Rattle.cli_plans.specs.declared.design.OrderedDesign.{OrderedDesign}
+use Rattle.hcl_types.specs.declared.table.BoundDesign.{BoundDesign}
 use Rattle.cli_plans.proofs.Does.{stage_read}
 use Rattle.cli_plans.proofs.design.pipe_file.Goals as goal
 
 pub returns-in-Ok-clause-design : goal.returns-in-Ok-clause-design
 returns-in-Ok-clause-design g c =
-    stage_read {A = List Term} _ _ (IsDesign pipe_rows) (RefusesDesign c.args.name.now pipe_rows) (λ (o : OrderedDesign). o.design.terms) _ _ c.in-Ok.source.items _
+    stage_read {A = List Term} _ _ (IsDesign pipe_rows) (RefusesDesign c.args.name.now pipe_rows) (λ (b : BoundDesign). b.ordered.design.terms) _ _ c.in-Ok.source.items _
     c.in-Ok.ensures.later c.in-Ok.ensures.bytes.0 c.in-Ok.ensures.bytes.1 (rw c.as_slice.ensures.value at c.pipe_design.ensures.design)

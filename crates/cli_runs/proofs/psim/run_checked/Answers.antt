@@ -14,7 +14,7 @@ unfolding checked_plan
 returns-in-Ok-Yes g c =
     rw c.if-not-request.false
     (one_goes_on _ _ c.in-Ok-Yes.text.items _ _ _ _ _ _
-    (subst (IsPipeVerdictText c.args.request.run.variant c.args.ordered.design.terms) c.in-Ok-Yes.field-0-is c.in-Ok-Yes.ensures.verdict)
+    (subst (IsPipeVerdictText c.args.request.run.variant c.args.bound.ordered.design.terms) c.in-Ok-Yes.field-0-is c.in-Ok-Yes.ensures.verdict)
     (rw c.as_slice.ensures.value at c.run_object-in-Ok-Yes.ensures))
 
 pub returns-in-Ok-No : goal.returns-in-Ok-No
@@ -23,7 +23,7 @@ returns-in-Ok-No g c =
     rw c.if-not-request.false
     (one_ends _ _ _ _ _ _ _
     (said_denied _ _ _ c.in-Ok-No.text.items _ _ _
-    (subst (IsPipeVerdictText c.args.request.run.variant c.args.ordered.design.terms) c.in-Ok-No.field-0-is c.in-Ok-No.ensures.verdict)
+    (subst (IsPipeVerdictText c.args.request.run.variant c.args.bound.ordered.design.terms) c.in-Ok-No.field-0-is c.in-Ok-No.ensures.verdict)
     (rw c.as_slice-in-Ok-No.ensures.value at c.write_answer.ensures)))
 
 pub returns : goal.returns

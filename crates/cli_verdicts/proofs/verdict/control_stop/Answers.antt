@@ -9,7 +9,7 @@ returns-in-AtomsOver64 c = λ terms is.
     inr (
       refl,
       inr (record {
-        over = subst (IsCtlFault c.args.ordered.now.table.rows terms) c.in-AtomsOver64.is is;
+        over = subst (IsCtlFault c.args.bound.now.table.rows terms) c.in-AtomsOver64.is is;
         told = ap (λ (names : List ℕ). refused 5 (names_line c.args.name.now (codes "AtomsOver64") names)) c.new.ensures.items;
       }),
     )

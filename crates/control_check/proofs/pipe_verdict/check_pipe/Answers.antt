@@ -11,7 +11,7 @@ decide_pipe-requires c =
     let made = c.in_ok-made.made.rules in
     let rules = c.in_ok-made.ensures.rules in
     record {
-      gates = subst (HaveGatesOfNet made.net) (sym c.items.ensures) (rules_gates c.args.variant c.args.design.now.terms c.args.order.now.ids c.requires.ordered s made.net made.list rules);
+      gates = subst (HaveGatesOfNet made.net) (sym c.items.ensures) (rules_gates c.args.variant c.args.ordered.now.design.terms c.args.ordered.now.order.ids c.requires.ordered s made.net made.list rules);
     }
 
 pub returns-in-Ok-None-clause-verdict : goal.returns-in-Ok-None-clause-verdict
@@ -20,7 +20,7 @@ returns-in-Ok-None-clause-verdict c =
     let made = c.in_ok-made.made.rules in
     let rules = c.in_ok-made.ensures.rules in
     let decided = subst (λ (list : List Rule). IsRuleDecision made.net list None) c.items.ensures (rw c.in-Ok-None.field-0-is at c.in-Ok-None.ensures) in
-    accepts c.args.variant c.args.design.now.terms c.args.order.now.ids c.requires.ordered s made.net made.list c.in_ok-made.ensures.settings rules decided
+    accepts c.args.variant c.args.ordered.now.design.terms c.args.ordered.now.order.ids c.requires.ordered s made.net made.list c.in_ok-made.ensures.settings rules decided
 
 pub returns-in-Ok-None-clause-refines : goal.returns-in-Ok-None-clause-refines
 returns-in-Ok-None-clause-refines c =
@@ -28,8 +28,8 @@ returns-in-Ok-None-clause-refines c =
     let made = c.in_ok-made.made.rules in
     let rules = c.in_ok-made.ensures.rules in
     let decided = subst (λ (list : List Rule). IsRuleDecision made.net list None) c.items.ensures (rw c.in-Ok-None.field-0-is at c.in-Ok-None.ensures) in
-    let accepted = accepts c.args.variant c.args.design.now.terms c.args.order.now.ids c.requires.ordered s made.net made.list c.in_ok-made.ensures.settings rules decided in
-    λ yes image k is_image pure. accepted_refines (record { v = c.args.variant; s = s; image = image }) c.args.design.now.terms c.args.order.now.ids
+    let accepted = accepts c.args.variant c.args.ordered.now.design.terms c.args.ordered.now.order.ids c.requires.ordered s made.net made.list c.in_ok-made.ensures.settings rules decided in
+    λ yes image k is_image pure. accepted_refines (record { v = c.args.variant; s = s; image = image }) c.args.ordered.now.design.terms c.args.ordered.now.order.ids
     accepted.settings.atoms c.requires.bound c.requires.ordered accepted.holds k is_image pure
 
 pub returns-in-Ok-Some-clause-verdict : goal.returns-in-Ok-Some-clause-verdict
@@ -38,4 +38,4 @@ returns-in-Ok-Some-clause-verdict c =
     let made = c.in_ok-made.made.rules in
     let rules = c.in_ok-made.ensures.rules in
     let decided = subst (λ (list : List Rule). IsRuleDecision made.net list (Some c.in-Ok-Some.failure)) c.items.ensures (rw c.in-Ok-Some.field-0-is at c.in-Ok-Some.ensures) in
-    (rejects c.args.variant c.args.design.now.terms c.args.order.now.ids c.requires.ordered s made.net made.list c.in-Ok-Some.failure c.in_ok-made.ensures.settings rules decided, c.in_ok-made.ensures.atoms)
+    (rejects c.args.variant c.args.ordered.now.design.terms c.args.ordered.now.order.ids c.requires.ordered s made.net made.list c.in-Ok-Some.failure c.in_ok-made.ensures.settings rules decided, c.in_ok-made.ensures.atoms)

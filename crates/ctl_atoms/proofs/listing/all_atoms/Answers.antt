@@ -11,9 +11,9 @@ use Rattle.ctl_atoms.proofs.listing.all_atoms.Goals as goal
 pub returns : goal.returns
 returns c = λ leaves fixed.
     let rows = c.args.t.now.rows in
-    let terms = c.args.d.now.terms in
+    let terms = c.args.ordered.now.design.terms in
     let lists = c.in_ok-lists.lists.items in
-    let one = leaves_one rows terms c.args.o.now.ids c.requires.ordered (leaves_at lists) leaves c.in_ok-lists.ensures.solved fixed in
+    let one = leaves_one rows terms c.args.ordered.now.order.ids c.requires.ordered (leaves_at lists) leaves c.in_ok-lists.ensures.solved fixed in
     c.in_ok-put_open_atoms.ensures
     ∙ (ap (λ (xs : List Atom). added xs (atoms_of_all (map (term_atoms (leaves_at c.as_slice.result.now)) c.items.result.now))) c.new-out.ensures.items
     ∙ (ap (λ (ts : List Term). atoms_of (leaves_at c.as_slice.result.now) ts) c.items.ensures

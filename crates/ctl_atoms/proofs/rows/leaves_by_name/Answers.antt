@@ -12,22 +12,22 @@ use Rattle.ctl_atoms.proofs.rows.leaves_by_name.Goals as goal
 pub loop-id-preserved : goal.loop-id-preserved
 loop-id-preserved c =
     let rows = c.items-rows.result.now in
-    let terms = c.args.d.now.terms in
+    let terms = c.args.ordered.now.design.terms in
     let items = c.items-id-items.result.now in
     let i = c.loop-id.id-index in
     let lists = c.loop-id.lists.items in
-    let inside : i < length c.args.o.now.ids = subst (λ (ns : List ℕ). i < length ns) c.items-id-items.ensures c.loop-id-test.true in
+    let inside : i < length c.args.ordered.now.order.ids = subst (λ (ns : List ℕ). i < length ns) c.items-id-items.ensures c.loop-id-test.true in
     let here = c.of.ensures ∙ (c.in_ok-leaves.ensures ∙ (ap (λ (ts : List Term). leaf_rule rows ts (get_or items i 0) (leaves_at c.as_slice.result.now)) c.items.ensures
     ∙ ap (λ (ls : List (List Leaf)). leaf_rule rows terms (get_or items i 0) (leaves_at ls)) c.as_slice.ensures.value)) in (
       length-set lists (get_or items i 0) c.of.result ∙ c.loop-id.invariant.0,
-      one_filled rows terms lists c.args.o.now.ids items i c.of.result c.items-id-items.ensures inside here ∙ c.loop-id.invariant.1,
+      one_filled rows terms lists c.args.ordered.now.order.ids items i c.of.result c.items-id-items.ensures inside here ∙ c.loop-id.invariant.1,
     )
 
 pub returns-clause-solved : goal.returns-clause-solved
 returns-clause-solved c =
     let rows = c.items-rows.result.now in
-    let terms = c.args.d.now.terms in
-    let ids = c.args.o.now.ids in
+    let terms = c.args.ordered.now.design.terms in
+    let ids = c.args.ordered.now.order.ids in
     let start = c.in_ok-lists.lists.items in
     let lists = c.loop-id.lists.items in
     let order = subst (λ (rs : List Row). IsOrderOf rs terms ids) (sym c.items-rows.ensures) c.requires.ordered in

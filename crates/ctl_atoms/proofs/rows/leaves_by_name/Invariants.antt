@@ -5,4 +5,4 @@ use Rattle.ctl_atoms.proofs.rows.leaves_by_name.Given as goal
 
 abbrev pub invariant-loop-id : goal.invariant-loop-id
 invariant-loop-id l = (length l.lists.items ≡ length l.initial.lists.items)
-    × (evaluated_along leaves_at slice_set (leaf_rule l.rows l.d.terms) l.lists.items (drop l.id-index l.o.ids) ≡ evaluated_along leaves_at slice_set (leaf_rule l.rows l.d.terms) l.initial.lists.items l.o.ids)
+    × (evaluated_along leaves_at slice_set (leaf_rule l.rows l.ordered.design.terms) l.lists.items (drop l.id-index l.ordered.order.ids) ≡ evaluated_along leaves_at slice_set (leaf_rule l.rows l.ordered.design.terms) l.initial.lists.items l.ordered.order.ids)

@@ -23,7 +23,7 @@ control_values-requires-clause-sound c = subst IsSound (sym c.in-Ok.ensures) pip
 
 pub returns : goal.returns
 returns c =
-    let terms = c.args.file.now.design.now.terms in
+    let terms = c.args.file.now.ordered.now.design.terms in
     let atoms = c.args.atoms.now in
     let w = c.args.bits.now in
     let α = assigned atoms bit_count w in
@@ -32,7 +32,7 @@ returns c =
     let own = subst (λ (ss : List FieldSpec). AreControls pipe_rows terms (field_at ss w) α (at ls)) c.field_specs.ensures solved in
     let cv : ℕ → Leaf = at c.of.result in
     let controls = controls_are terms w α cv (subst (λ (xs : List Leaf). AreControls pipe_rows terms (field_at field_specs w) α (at xs)) (sym c.of.ensures) own) in
-    let given = atoms_given pipe_rows terms c.args.file.now.order.now.ids atoms bit_count w c.requires.ordered c.requires.atoms in
+    let given = atoms_given pipe_rows terms c.args.file.now.ordered.now.order.ids atoms bit_count w c.requires.ordered c.requires.atoms in
     let v = c.args.file.now.variant in
     let s = c.args.file.now.settings.now in
     let i = c.args.number in

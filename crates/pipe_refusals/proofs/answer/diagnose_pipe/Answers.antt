@@ -11,7 +11,7 @@ decide_pipe-requires c =
     let made = c.in_ok-made.made.rules in
     let rules = c.in_ok-made.ensures.rules in
     record {
-      gates = subst (HaveGatesOfNet made.net) (sym c.items.ensures) (rules_gates c.args.v c.args.d.now.terms c.args.o.now.ids c.requires.ordered s made.net made.list rules);
+      gates = subst (HaveGatesOfNet made.net) (sym c.items.ensures) (rules_gates c.args.v c.args.ordered.now.design.terms c.args.ordered.now.order.ids c.requires.ordered s made.net made.list rules);
     }
 
 pub refuse-requires-clause-failure : goal.refuse-requires-clause-failure
@@ -25,7 +25,7 @@ returns-in-Ok-None-clause-answer c =
     let made = c.in_ok-made.made.rules in
     let rules = c.in_ok-made.ensures.rules in
     let decided = subst (λ (list : List Rule). IsRuleDecision made.net list None) c.items.ensures (rw c.in-Ok-None.field-0-is at c.in-Ok-None.ensures) in
-    accepts c.args.v c.args.d.now.terms c.args.o.now.ids c.requires.ordered s made.net made.list c.in_ok-made.ensures.settings rules decided
+    accepts c.args.v c.args.ordered.now.design.terms c.args.ordered.now.order.ids c.requires.ordered s made.net made.list c.in_ok-made.ensures.settings rules decided
 
 pub returns-in-Ok-None-clause-refines : goal.returns-in-Ok-None-clause-refines
 returns-in-Ok-None-clause-refines c =
@@ -33,6 +33,6 @@ returns-in-Ok-None-clause-refines c =
     let made = c.in_ok-made.made.rules in
     let rules = c.in_ok-made.ensures.rules in
     let decided = subst (λ (list : List Rule). IsRuleDecision made.net list None) c.items.ensures (rw c.in-Ok-None.field-0-is at c.in-Ok-None.ensures) in
-    let accepted = accepts c.args.v c.args.d.now.terms c.args.o.now.ids c.requires.ordered s made.net made.list c.in_ok-made.ensures.settings rules decided in
-    λ yes image k is_image pure. accepted_refines (record { v = c.args.v; s = s; image = image }) c.args.d.now.terms c.args.o.now.ids
+    let accepted = accepts c.args.v c.args.ordered.now.design.terms c.args.ordered.now.order.ids c.requires.ordered s made.net made.list c.in_ok-made.ensures.settings rules decided in
+    λ yes image k is_image pure. accepted_refines (record { v = c.args.v; s = s; image = image }) c.args.ordered.now.design.terms c.args.ordered.now.order.ids
     accepted.settings.atoms c.requires.bound c.requires.ordered accepted.holds k is_image pure

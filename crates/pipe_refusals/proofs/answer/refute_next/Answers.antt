@@ -10,7 +10,7 @@ use Rattle.pipe_refusals.proofs.answer.refute_next.Goals as goal
 pub decide_pipe-requires : goal.decide_pipe-requires
 decide_pipe-requires c =
     let r = c.args.rules.now in
-    let whole = gates_of c.args.file.now.variant c.args.file.now.design.now.terms c.args.file.now.settings.now r.net r.list c.requires.rules in
+    let whole = gates_of c.args.file.now.variant c.args.file.now.ordered.now.design.terms c.args.file.now.settings.now r.net r.list c.requires.rules in
     record {
       gates = subst (HaveGatesOfNet r.net) (sym (c.rules_from.ensures ∙ ap (drop c.args.from) c.items-list.ensures)) (gates_from r.net r.list c.args.from whole);
     }
@@ -25,27 +25,27 @@ pub returns-in-None-clause-refuted : goal.returns-in-None-clause-refuted
 returns-in-None-clause-refuted c =
     let r = c.args.rules.now in
     let v = c.args.file.now.variant in
-    let terms = c.args.file.now.design.now.terms in
+    let terms = c.args.file.now.ordered.now.design.terms in
     let s = c.args.file.now.settings.now in
     let all = c.args.first.now ∷ c.args.others.now.items in
     let h = subst (λ (o : Option FailedRule). IsRuleDecision r.net (drop c.args.from r.list) o) c.in-None.is
     (subst (λ (xs : List Rule). IsRuleDecision r.net xs c.in_ok-decide_pipe.field-0) (c.rules_from.ensures ∙ ap (drop c.args.from) c.items-list.ensures) c.in_ok-decide_pipe.ensures) in
     subst (λ (xs : List Rule). AreRefuted v terms s r.atoms (length xs) all) (sym c.items-list.ensures)
-    (rest_holds v terms s r.net r.list c.requires.rules c.args.file.now.order.now.ids c.requires.ordered r.atoms c.requires.atoms c.args.from all
+    (rest_holds v terms s r.net r.list c.requires.rules c.args.file.now.ordered.now.order.ids c.requires.ordered r.atoms c.requires.atoms c.args.from all
     (let from = c.requires.from in omega (arith, from)) h c.requires.refuted)
 
 pub returns-in_ok-put-in-Some-clause-refuted : goal.returns-in_ok-put-in-Some-clause-refuted
 returns-in_ok-put-in-Some-clause-refuted c =
     let r = c.args.rules.now in
     let v = c.args.file.now.variant in
-    let terms = c.args.file.now.design.now.terms in
+    let terms = c.args.file.now.ordered.now.design.terms in
     let s = c.args.file.now.settings.now in
     let old = c.args.others.now.items in
     let x = c.in_ok-refutation-in-Some.refutation in
     let h = subst (λ (o : Option FailedRule). IsRuleDecision r.net (drop c.args.from r.list) o) c.in-Some.is
     (subst (λ (xs : List Rule). IsRuleDecision r.net xs c.in_ok-decide_pipe.field-0) (c.rules_from.ensures ∙ ap (drop c.args.from) c.items-list.ensures) c.in_ok-decide_pipe.ensures) in
     subst (λ (xs : List Refutation). AreRefuted v terms s r.atoms c.in-Some.failure.rule (c.args.first.now ∷ xs)) (sym c.in_ok-put-in-Some.ensures)
-    (one_more v terms s r.net r.list c.requires.rules c.args.file.now.order.now.ids c.requires.ordered r.atoms c.requires.atoms c.args.from c.in-Some.failure (c.args.first.now ∷ old) x h
+    (one_more v terms s r.net r.list c.requires.rules c.args.file.now.ordered.now.order.ids c.requires.ordered r.atoms c.requires.atoms c.args.from c.in-Some.failure (c.args.first.now ∷ old) x h
     c.in_ok-refutation-in-Some.ensures.rule c.in_ok-refutation-in-Some.ensures.refutation c.requires.refuted)
 
 pub returns-in_ok-put-in-Some-clause-more : goal.returns-in_ok-put-in-Some-clause-more
@@ -53,11 +53,11 @@ returns-in_ok-put-in-Some-clause-more c =
     let r = c.args.rules.now in
     let h = subst (λ (o : Option FailedRule). IsRuleDecision r.net (drop c.args.from r.list) o) c.in-Some.is
     (subst (λ (xs : List Rule). IsRuleDecision r.net xs c.in_ok-decide_pipe.field-0) (c.rules_from.ensures ∙ ap (drop c.args.from) c.items-list.ensures) c.in_ok-decide_pipe.ensures) in
-    next_rule c.args.file.now.variant c.args.file.now.design.now.terms c.args.file.now.settings.now r.net r.list c.requires.rules c.args.from c.in-Some.failure h
+    next_rule c.args.file.now.variant c.args.file.now.ordered.now.design.terms c.args.file.now.settings.now r.net r.list c.requires.rules c.args.from c.in-Some.failure h
 
 pub returns-in_ok-put-in-Some-clause-within : goal.returns-in_ok-put-in-Some-clause-within
 returns-in_ok-put-in-Some-clause-within c =
     let r = c.args.rules.now in
     let h = subst (λ (o : Option FailedRule). IsRuleDecision r.net (drop c.args.from r.list) o) c.in-Some.is
     (subst (λ (xs : List Rule). IsRuleDecision r.net xs c.in_ok-decide_pipe.field-0) (c.rules_from.ensures ∙ ap (drop c.args.from) c.items-list.ensures) c.in_ok-decide_pipe.ensures) in
-    within_list c.args.file.now.variant c.args.file.now.design.now.terms c.args.file.now.settings.now r.net r.list c.requires.rules c.args.from c.in-Some.failure h
+    within_list c.args.file.now.variant c.args.file.now.ordered.now.design.terms c.args.file.now.settings.now r.net r.list c.requires.rules c.args.from c.in-Some.failure h

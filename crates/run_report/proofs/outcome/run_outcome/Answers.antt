@@ -11,5 +11,5 @@ returns-clause-covered c =
     let good : IsImage a.image = record { sized = subst IsSize c.size-size.ensures.size c.size-size.ensures.legal; bytes = c.size-size.ensures.bytes } in
     let watched : IsWatched r.variant a.image r.limit c.watch-watched.result =
     subst (λ (x : List ℕ). IsWatched r.variant x r.limit c.watch-watched.result) c.in-Ok.ensures c.watch-watched.ensures in
-    covers r.variant r.design.terms r.order.ids a.image r.limit c.in_ok-compared.compared good c.in_ok-compared.ensures c.in_ok-judged.judged c.watch-watched.result
+    covers r.variant r.ordered.design.terms r.ordered.order.ids a.image r.limit c.in_ok-compared.compared good c.in_ok-compared.ensures c.in_ok-judged.judged c.watch-watched.result
     c.in_ok-judged.ensures.judged watched

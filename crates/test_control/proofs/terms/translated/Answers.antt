@@ -23,9 +23,9 @@ translate-requires-clause-places c =
 
 pub translate-requires-clause-vars : goal.translate-requires-clause-vars
 translate-requires-clause-vars c = λ listed are.
-    let at = subst (λ rows. AreAtoms rows c.args.d.now.terms listed) c.in-Ok.ensures are in
-    let own = subst (λ rows. AreAtoms rows c.args.d.now.terms c.in-Ok-atoms.listed.items) c.in-Ok.ensures c.in-Ok-atoms.ensures in
-    let e = ap length (atoms_one seq_rows c.args.d.now.terms c.args.o.now.ids listed c.in-Ok-atoms.listed.items c.requires.ordered at own) in
+    let at = subst (λ rows. AreAtoms rows c.args.ordered.now.design.terms listed) c.in-Ok.ensures are in
+    let own = subst (λ rows. AreAtoms rows c.args.ordered.now.design.terms c.in-Ok-atoms.listed.items) c.in-Ok.ensures c.in-Ok-atoms.ensures in
+    let e = ap length (atoms_one seq_rows c.args.ordered.now.design.terms c.args.ordered.now.order.ids listed c.in-Ok-atoms.listed.items c.requires.ordered at own) in
     omega (arith, e, c.len.ensures, c.new-b.ensures.vars)
 
 pub truth-gate-requires : goal.truth-gate-requires
