@@ -11,8 +11,8 @@ use crate::cycle::record_of;
 use crate::path::Sequential;
 use crate::values::{constants_in, solve_in};
 use dp_machines::{ClockedMachine, is_aok_stat};
-use dp_signals::{OrderedDesign, constant_words};
-use hcl_types::{Design, Order, SignalEval};
+use dp_signals::constant_words;
+use hcl_types::{OrderedDesign, SignalEval};
 use std::marker::Model;
 use y86_base::{Image, Variant};
 use y86_isa::Rec;
@@ -24,8 +24,7 @@ use yis_run::End;
 #[derive(Drop)]
 pub struct SequentialMachine<S: Sequential, C: SignalEval, const N: usize> {
     variant: Variant,
-    design: Design,
-    order: Order,
+    ordered: OrderedDesign,
     evaluator: C,
     state: S,
     fits: bool,
@@ -44,10 +43,10 @@ impl<S: Sequential, C: SignalEval, const N: usize> Model for SequentialMachine<S
 
     ghost coded = { Prim.hlevel (codes, term.the_row.coded) };
 
-    ghost view = { λ p. seen p.variant p.design.terms p.order.ids p.state };
+    ghost view = { λ p. seen p.variant p.ordered.design.terms p.ordered.order.ids p.state };
 
-    ghost invariant = { λ p. C.evaluates p.evaluator p.design.terms × (IsTrue p.fits → Starts (C.assumes p.evaluator) constants)
-        × Starts constants p.values × IsOfTable S.path.table p.design.terms p.order.ids × (N ≡ S.path.count) };
+    ghost invariant = { λ p. C.evaluates p.evaluator p.ordered.design.terms × (IsTrue p.fits → Starts (C.assumes p.evaluator) constants)
+        × Starts constants p.values × IsOfTable S.path.table p.ordered.design.terms p.ordered.order.ids × (N ≡ S.path.count) };
 }
 
 impl<S: Sequential, C: SignalEval, const N: usize> SequentialMachine<S, C, N> {
@@ -55,23 +54,21 @@ impl<S: Sequential, C: SignalEval, const N: usize> SequentialMachine<S, C, N> {
     /// allocated, here or later.
     pub fn new(
         variant: Variant,
-        design: Design,
-        order: Order,
+        ordered: OrderedDesign,
         evaluator: C,
         mem: Image,
     ) -> SequentialMachine<S, C, N>
-        requires evaluates { C.evaluates evaluator design.terms }
-        requires bound { IsBound S.path.table design.terms }
-        requires ordered { IsOrderOf S.path.table design.terms order.ids }
+        requires evaluates { C.evaluates evaluator ordered.design.terms }
+        requires bound { IsBound S.path.table ordered.design.terms }
+        requires ordered { IsOrderOf S.path.table ordered.design.terms ordered.order.ids }
         requires size { N ≡ S.path.count }
         requires constants { constant_count ≤ N }
-        ensures { result ≡ started_on S.path variant design.terms order.ids mem }
+        ensures { result ≡ started_on S.path variant ordered.design.terms ordered.order.ids mem }
     {
         let fits = evaluator.fits(&constant_words());
         SequentialMachine {
             variant,
-            design,
-            order,
+            ordered,
             evaluator,
             state: S::start(mem),
             fits,
@@ -96,13 +93,9 @@ impl<S: Sequential, C: SignalEval, const N: usize> SequentialMachine<S, C, N> {
         if !is_aok_stat(self.state.view(0).stat) {
             return None;
         }
-        let ordered = OrderedDesign {
-            design: &self.design,
-            order: &self.order,
-        };
         solve_in(
             self.variant,
-            ordered,
+            &self.ordered,
             &self.state,
             &mut self.evaluator,
             self.fits,
@@ -120,13 +113,9 @@ impl<S: Sequential, C: SignalEval, const N: usize> SequentialMachine<S, C, N> {
         ensures pc { PcIs S.path self.old.variant self.old.terms self.old.state result }
         ensures same { self.new ≡ self.old }
     {
-        let ordered = OrderedDesign {
-            design: &self.design,
-            order: &self.order,
-        };
         solve_in(
             self.variant,
-            ordered,
+            &self.ordered,
             &self.state,
             &mut self.evaluator,
             self.fits,

@@ -12,10 +12,10 @@ ghost use Rattle.dp_sequential.specs.Path.{Solves, machine_at};
 
 use crate::path::Sequential;
 use dp_signals::{
-    Hardware, OrderedDesign, SignalRows, at, cnd, dmem_error, fetch_ra, fetch_rb, fill,
-    put_constant_words, reg_val, val_c, val_e, val_m, val_p,
+    Hardware, SignalRows, at, cnd, dmem_error, fetch_ra, fetch_rb, fill, put_constant_words,
+    reg_val, val_c, val_e, val_m, val_p,
 };
-use hcl_types::{NameId, SignalEval};
+use hcl_types::{NameId, OrderedDesign, SignalEval};
 use std::marker::Model;
 use y86_base::Variant;
 use y86_isa::{Reading, read};
@@ -181,22 +181,22 @@ impl<'a, S: Sequential> Hardware for Units<'a, S> {
 #[inline(always)]
 pub fn solve_in<S: Sequential, C: SignalEval>(
     variant: Variant,
-    ordered: OrderedDesign<'_>,
+    ordered: &OrderedDesign,
     s: &S,
     c: &mut C,
     fits: bool,
     values: &mut [u64],
 )
-    requires evaluates { C.evaluates c.old ordered.design.now.terms }
+    requires evaluates { C.evaluates c.old ordered.now.design.terms }
     requires fits { IsTrue fits → Starts (C.assumes c.old) constants }
-    requires bound { IsBound S.path.table ordered.design.now.terms }
-    requires ordered { IsOrderOf S.path.table ordered.design.now.terms ordered.order.now.ids }
+    requires bound { IsBound S.path.table ordered.now.design.terms }
+    requires ordered { IsOrderOf S.path.table ordered.now.design.terms ordered.now.order.ids }
     requires constants { Starts constants values.old }
     requires size { length values.old ≡ S.path.count }
-    ensures solves { Solves S.path variant ordered.entry.design.now.terms s.now (at values.new) }
+    ensures solves { Solves S.path variant ordered.now.design.terms s.now (at values.new) }
     ensures constants { Starts constants values.new }
     ensures size { length values.new ≡ S.path.count }
-    ensures kept { C.evaluates c.new ordered.entry.design.now.terms }
+    ensures kept { C.evaluates c.new ordered.now.design.terms }
     ensures same { C.assumes c.new ≡ C.assumes c.old }
 {
     s.put_given(values);
