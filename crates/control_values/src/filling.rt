@@ -13,7 +13,7 @@ ghost use Rattle.control_values.specs.Given.{AreNear, assigned, at, field_at, gi
 
 use crate::scope::Scope;
 use ctl_atoms::{Atom, Leaf, definitions_before};
-use hcl_types::{Class, Design, NameId, Order, Role, Row, Table, Term};
+use hcl_types::{Class, NameId, OrderedDesign, Role, Row, Table, Term};
 use net_fields::{FieldSpec, place_in};
 use std::alloc::Global;
 use y86_base::Memory;
@@ -166,23 +166,28 @@ fn given_leaves(alloc: Global, s: &Situation<'_>, rows: &[Row]) -> Result<Vec<Le
 /// The control value of each row of a table at a valuation: they solve the equations of the design.
 pub fn control_values(
     alloc: Global,
-    d: &Design,
+    ordered: &OrderedDesign,
     t: &Table,
-    o: &Order,
     s: &Situation<'_>,
 ) -> Result<Vec<Leaf>, Memory>
     requires sound { IsSound t.now.rows }
-    requires ordered { IsOrderOf t.now.rows d.now.terms o.now.ids }
+    requires ordered { IsOrderOf t.now.rows ordered.now.design.terms ordered.now.order.ids }
     requires near { s.now.first ≤ 1000 }
     requires places { AreNear s.now.fields.now }
     ensures whole { IfOk result (λ leaves. length leaves.items ≡ length t.now.rows) }
-    ensures solved { IfOk result (λ leaves. AreControls t.now.rows d.now.terms (field_at s.now.fields.now s.now.bits.now)
+    ensures solved { IfOk result (λ leaves. AreControls t.now.rows ordered.now.design.terms (field_at s.now.fields.now s.now.bits.now)
         (assigned s.now.atoms.now s.now.first s.now.bits.now) (at leaves.items)) }
 {
     let rows = t.rows.items();
     let mut leaves = given_leaves(alloc, s, rows)?;
-    for id in o.ids.items() {
-        let leaf = leaf_of_row(s, rows, d.terms.items(), *id, leaves.as_slice());
+    for id in ordered.order.ids.items() {
+        let leaf = leaf_of_row(
+            s,
+            rows,
+            ordered.design.terms.items(),
+            *id,
+            leaves.as_slice(),
+        );
         leaves[*id as usize] = leaf;
     }
     Ok(leaves)

@@ -23,7 +23,7 @@ use ctl_atoms::{Atom, CtlFault, atoms, definitions_before};
 use ctl_given::{Place, given_entry};
 use ctl_picks::{Controls, Entry};
 use ctl_terms::Scope;
-use hcl_types::{Design, NameId, Order, Row, Table, Term, is_defined};
+use hcl_types::{NameId, Order, OrderedDesign, Row, Table, Term, is_defined};
 use nets::NetBuilder;
 use std::alloc::Global;
 use y86_base::{Items, Memory};
@@ -194,39 +194,38 @@ impl<'a> Definitions<'a> {
 /// `AtomsOver64`, if the definitions have more than 64 different atoms; `Memory`.
 pub fn translate(
     alloc: Global,
-    d: &Design,
+    ordered: &OrderedDesign,
     t: &Table,
-    o: &Order,
     places: &[Place],
     b: &mut NetBuilder,
 ) -> Result<Controls, CtlFault>
     requires sound { IsSound t.now.rows }
-    requires bound { IsBound t.now.rows d.now.terms }
-    requires ordered { IsOrderOf t.now.rows d.now.terms o.now.ids }
+    requires bound { IsBound t.now.rows ordered.now.design.terms }
+    requires ordered { IsOrderOf t.now.rows ordered.now.design.terms ordered.now.order.ids }
     requires places { HavePlaces t.now.rows places.now b.old.vars }
-    requires vars { (listed : List Atom) → AreAtoms t.now.rows d.now.terms listed → length listed ≤ b.old.vars }
+    requires vars { (listed : List Atom) → AreAtoms t.now.rows ordered.now.design.terms listed → length listed ≤ b.old.vars }
     ensures extends { ExtendsNet b.old b.new }
     ensures inside { IfOk result (λ ctl. IsInside b.new ctl) }
     ensures covers { IfOk result (λ ctl. Covers t.now.rows ctl) }
     ensures apart { IfOk result (λ ctl. AreApart ctl) }
-    ensures encodes { (w : List Bool) (α : Assignment) (field : ℕ → ℕ) (cv : ℕ → Leaf) (listed : List Atom) → AreAtoms t.now.rows d.now.terms listed →
-        AtomsAre listed (b.old.vars - length listed) w α → Spells places.now w field → AreControls t.now.rows d.now.terms field α cv →
+    ensures encodes { (w : List Bool) (α : Assignment) (field : ℕ → ℕ) (cv : ℕ → Leaf) (listed : List Atom) → AreAtoms t.now.rows ordered.now.design.terms listed →
+        AtomsAre listed (b.old.vars - length listed) w α → Spells places.now w field → AreControls t.now.rows ordered.now.design.terms field α cv →
         IfOk result (λ ctl. EncodesControls b.new ctl w α cv) }
     // So there is a result only if nothing is Mixed and there are at most 64 atoms.
-    ensures listed { IfOk result (λ ctl. (listed : List Atom) × AreAtoms t.now.rows d.now.terms listed) }
-    ensures fault { IfErr result (IsCtlFault t.now.rows d.now.terms) }
+    ensures listed { IfOk result (λ ctl. (listed : List Atom) × AreAtoms t.now.rows ordered.now.design.terms listed) }
+    ensures fault { IfErr result (IsCtlFault t.now.rows ordered.now.design.terms) }
 {
-    match atoms(alloc, d, t, o) {
+    match atoms(alloc, ordered, t) {
         Err(e) => Err(e),
         Ok(listed) => {
             let atoms = listed.as_slice();
             let definitions = Definitions {
                 rows: t.rows.items(),
-                terms: d.terms.items(),
+                terms: ordered.design.terms.items(),
                 atoms,
                 first: b.vars() - atoms.len() as u32,
             };
-            match definitions.controls(alloc, o, places, b) {
+            match definitions.controls(alloc, &ordered.order, places, b) {
                 Ok(ctl) => Ok(ctl),
                 Err(_) => Err(CtlFault::Memory),
             }

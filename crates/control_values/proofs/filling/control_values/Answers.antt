@@ -12,10 +12,10 @@ use Rattle.control_values.proofs.filling.control_values.Goals as goal
 pub returns-clause-solved : goal.returns-clause-solved
 returns-clause-solved c =
     let rows = c.items-rows.result.now in
-    let terms = c.args.d.now.terms in
+    let terms = c.args.ordered.now.design.terms in
     let field = field_at c.args.s.now.fields.now c.args.s.now.bits.now in
     let α = assigned c.args.s.now.atoms.now c.args.s.now.first c.args.s.now.bits.now in
-    let ids = c.args.o.now.ids in
+    let ids = c.args.ordered.now.order.ids in
     let start = c.in_ok-leaves.leaves.items in
     let leaves = c.loop-id.leaves.items in
     let order = subst (λ (rs : List Row). IsOrderOf rs terms ids) (sym c.items-rows.ensures) c.requires.ordered in
