@@ -10,7 +10,7 @@ use ctl_picks::Controls;
 use ctl_given::Place;
 use ctl_formula::translate;
 use dp_signals::{pipe_row as row, pipe_table};
-use hcl_types::{Design, Order};
+use hcl_types::OrderedDesign;
 use nets::NetBuilder;
 use pipe_fields::{BIT_COUNT, field_table, places as field};
 use std::alloc::Global;
@@ -39,18 +39,18 @@ fn places() -> &'static [Place]
 }
 
 /// The gates of all names of a design. A design that mixes classes or needs more than 64 atoms has none.
-pub(crate) fn translated(alloc: Global, d: &Design, o: &Order) -> Result<DesignGates, CtlFault>
-    requires bound { IsBound pipe_rows d.now.terms }
-    requires ordered { IsOrderOf pipe_rows d.now.terms o.now.ids }
-    ensures has_truth { IfOk result (λ r. IsTranslated d.now.terms r.b r.ctl r.listed.items) }
-    ensures fault { IfErr result (IsCtlFault pipe_rows d.now.terms) }
+pub(crate) fn translated(alloc: Global, ordered: &OrderedDesign) -> Result<DesignGates, CtlFault>
+    requires bound { IsBound pipe_rows ordered.now.design.terms }
+    requires ordered { IsOrderOf pipe_rows ordered.now.design.terms ordered.now.order.ids }
+    ensures has_truth { IfOk result (λ r. IsTranslated ordered.now.design.terms r.b r.ctl r.listed.items) }
+    ensures fault { IfErr result (IsCtlFault pipe_rows ordered.now.design.terms) }
 {
     let t = match pipe_table(alloc) {
         Ok(t) => t,
         Err(_) => return Err(CtlFault::Memory),
     };
-    let listed = atoms(alloc, d, &t, o)?;
+    let listed = atoms(alloc, ordered, &t)?;
     let mut b = NetBuilder::new(alloc, BIT_COUNT + listed.len() as u32);
-    let ctl = translate(alloc, d, &t, o, places(), &mut b)?;
+    let ctl = translate(alloc, ordered, &t, places(), &mut b)?;
     Ok(DesignGates { b, ctl, listed })
 }

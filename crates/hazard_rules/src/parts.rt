@@ -14,7 +14,7 @@ use crate::rules::rules_told;
 use ctl_atoms::{Atom, CtlFault};
 use ctl_picks::Controls;
 use ctl_rules::Rules;
-use hcl_types::{Design, Order};
+use hcl_types::OrderedDesign;
 use nets::{Net, NetBuilder};
 use pipe_motion::Settings;
 use pipe_motion_gates::{Late, late_gates};
@@ -39,14 +39,14 @@ pub struct Parts {
 /// The parts of a design.
 ///
 /// Errors: `Mixed` and `AtomsOver64`, as `ctl_atoms::atoms` reports them; `Memory`.
-pub fn pipe_parts(alloc: Global, v: Variant, d: &Design, o: &Order) -> Result<Parts, CtlFault>
-    requires bound { IsBound pipe_rows d.now.terms }
-    requires ordered { IsOrderOf pipe_rows d.now.terms o.now.ids }
-    ensures belong { IfOk result (BelongTo d.now.terms) }
+pub fn pipe_parts(alloc: Global, v: Variant, ordered: &OrderedDesign) -> Result<Parts, CtlFault>
+    requires bound { IsBound pipe_rows ordered.now.design.terms }
+    requires ordered { IsOrderOf pipe_rows ordered.now.design.terms ordered.now.order.ids }
+    ensures belong { IfOk result (BelongTo ordered.now.design.terms) }
     ensures variant { IfOk result (λ p. p.variant ≡ v) }
-    ensures fault { IfErr result (IsCtlFault pipe_rows d.now.terms) }
+    ensures fault { IfErr result (IsCtlFault pipe_rows ordered.now.design.terms) }
 {
-    let made = translated(alloc, d, o)?;
+    let made = translated(alloc, ordered)?;
     let mut b = made.b;
     let ctl = made.ctl;
     let atoms = made.listed;

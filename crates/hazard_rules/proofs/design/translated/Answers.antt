@@ -23,13 +23,13 @@ translate-requires-clause-places c =
 
 pub translate-requires-clause-vars : goal.translate-requires-clause-vars
 translate-requires-clause-vars c = λ listed are.
-    let at = subst (λ rows. AreAtoms rows c.args.d.now.terms listed) c.in-Ok.ensures are in
-    let own = subst (λ rows. AreAtoms rows c.args.d.now.terms c.in_ok-listed.listed.items) c.in-Ok.ensures c.in_ok-listed.ensures in
-    let e = ap length (atoms_one pipe_rows c.args.d.now.terms c.args.o.now.ids listed c.in_ok-listed.listed.items c.requires.ordered at own) in
+    let at = subst (λ rows. AreAtoms rows c.args.ordered.now.design.terms listed) c.in-Ok.ensures are in
+    let own = subst (λ rows. AreAtoms rows c.args.ordered.now.design.terms c.in_ok-listed.listed.items) c.in-Ok.ensures c.in_ok-listed.ensures in
+    let e = ap length (atoms_one pipe_rows c.args.ordered.now.design.terms c.args.ordered.now.order.ids listed c.in_ok-listed.listed.items c.requires.ordered at own) in
     omega (arith, e, c.len.ensures, c.new-b.ensures.vars)
 
 pub returns-clause-has_truth : goal.returns-clause-has_truth
 returns-clause-has_truth c =
     let size : c.new-b.result.vars ≡ bit_count + length c.in_ok-listed.listed.items = omega (arith, c.len.ensures, c.new-b.ensures.vars) in
-    told_design c.args.d.now.terms c.in-Ok.t.rows c.places.result.now c.in_ok-ctl.ctl c.in_ok-listed.listed.items c.new-b.result.vars
+    told_design c.args.ordered.now.design.terms c.in-Ok.t.rows c.places.result.now c.in_ok-ctl.ctl c.in_ok-listed.listed.items c.new-b.result.vars
     c.in-Ok.ensures c.places.ensures c.in_ok-listed.ensures size c.translate.ensures.extends.vars c.in_ok-ctl.ensures.inside c.in_ok-ctl.ensures.covers c.in_ok-ctl.ensures.encodes
