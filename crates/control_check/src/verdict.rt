@@ -7,7 +7,7 @@ ghost use Rattle.control_check.specs.SeqVerdicts.{IsSeqFault, IsSeqVerdict, is_y
 
 use ctl_atoms::Atom;
 use ctl_verdicts::{CheckFault, check_fault, decide};
-use hcl_types::{Design, Order};
+use hcl_types::OrderedDesign;
 use nets::Valuation;
 use pipe_motion::Settings;
 use seq_obligations::seq_rules;
@@ -42,16 +42,15 @@ const NO_SETTINGS: Settings = Settings {
 pub fn check_seq(
     alloc: Global,
     variant: Variant,
-    design: &Design,
-    order: &Order,
+    ordered: &OrderedDesign,
 ) -> Result<Verdict, CheckFault>
-    requires bound { IsBound seq_rows design.now.terms }
-    requires ordered { IsOrderOf seq_rows design.now.terms order.now.ids }
-    ensures verdict { IfOk result (IsSeqVerdict variant design.now.terms) }
-    ensures refines { IfOk result (λ v. is_yes v ≡ true → RefinesSeq variant design.now.terms) }
-    ensures fault { IfErr result (IsSeqFault design.now.terms) }
+    requires bound { IsBound seq_rows ordered.now.design.terms }
+    requires ordered { IsOrderOf seq_rows ordered.now.design.terms ordered.now.order.ids }
+    ensures verdict { IfOk result (IsSeqVerdict variant ordered.now.design.terms) }
+    ensures refines { IfOk result (λ v. is_yes v ≡ true → RefinesSeq variant ordered.now.design.terms) }
+    ensures fault { IfErr result (IsSeqFault ordered.now.design.terms) }
 {
-    let rules = match seq_rules(alloc, variant, design, order) {
+    let rules = match seq_rules(alloc, variant, ordered) {
         Ok(rules) => rules,
         Err(fault) => return Err(check_fault(fault)),
     };

@@ -32,8 +32,8 @@ fn leaves_at(
     atoms: &[Atom],
     bits: &[bool],
 ) -> Result<Vec<Leaf>, Memory>
-    requires { IsOrderOf (rows_of file.now.which) file.now.design.now.terms file.now.order.now.ids }
-    ensures { IfOk result (λ leaves. AreControls (rows_of file.now.which) file.now.design.now.terms (field_at (spots_of file.now.which) bits.now)
+    requires { IsOrderOf (rows_of file.now.which) file.now.ordered.now.design.terms file.now.ordered.now.order.ids }
+    ensures { IfOk result (λ leaves. AreControls (rows_of file.now.which) file.now.ordered.now.design.terms (field_at (spots_of file.now.which) bits.now)
         (spec.truths_at file.now.which atoms.now bits.now) (at leaves.items)) }
 {
     let t = table_of(alloc, file.which)?;
@@ -43,7 +43,7 @@ fn leaves_at(
         first: bit_count(file.which) as usize,
         bits,
     };
-    control_values(alloc, file.design, &t, file.order, &situation)
+    control_values(alloc, file.ordered, &t, &situation)
 }
 
 /// Diagnoses a valuation at which an obligation is false.
@@ -55,10 +55,10 @@ pub fn diagnose(
     number: u32,
     bits: &[bool],
 ) -> Result<Diagnosis, Memory>
-    requires ordered { IsOrderOf (rows_of file.now.which) file.now.design.now.terms file.now.order.now.ids }
-    requires atoms { AreAtoms (rows_of file.now.which) file.now.design.now.terms atoms.now }
-    requires fails { spec.Fails file.now.which file.now.variant file.now.design.now.terms atoms.now number bits.now }
-    ensures diagnosis { IfOk result (spec.IsDiagnosis file.now.which file.now.variant file.now.design.now.terms atoms.now number bits.now) }
+    requires ordered { IsOrderOf (rows_of file.now.which) file.now.ordered.now.design.terms file.now.ordered.now.order.ids }
+    requires atoms { AreAtoms (rows_of file.now.which) file.now.ordered.now.design.terms atoms.now }
+    requires fails { spec.Fails file.now.which file.now.variant file.now.ordered.now.design.terms atoms.now number bits.now }
+    ensures diagnosis { IfOk result (spec.IsDiagnosis file.now.which file.now.variant file.now.ordered.now.design.terms atoms.now number bits.now) }
 {
     let leaves = leaves_at(alloc, file, atoms, bits)?;
     let scope = Scope {
@@ -71,7 +71,7 @@ pub fn diagnose(
     let findings = findings_of(
         alloc,
         &scope,
-        file.design.terms.items(),
+        file.ordered.design.terms.items(),
         first_defined(file.which),
         all.as_slice(),
     )?;

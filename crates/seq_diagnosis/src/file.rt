@@ -1,5 +1,5 @@
 //! A file for SEQ or SEQ+, with what its obligations depend on.
-use hcl_types::{Design, Order};
+use hcl_types::OrderedDesign;
 use seq_requirements::Datapath;
 use y86_base::Variant;
 
@@ -10,8 +10,6 @@ pub struct SeqFile<'a> {
     pub which: Datapath,
     /// The instruction set.
     pub variant: Variant,
-    /// The definitions of the file.
-    pub design: &'a Design,
-    /// An order in which its signals can be computed.
-    pub order: &'a Order,
+    /// The definitions of the file, with an order of its signals.
+    pub ordered: &'a OrderedDesign,
 }

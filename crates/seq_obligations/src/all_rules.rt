@@ -10,7 +10,7 @@ use crate::rules::SeqRules;
 use ctl_atoms::{CtlFault, atoms};
 use ctl_formula::translate;
 use ctl_rules::Rules;
-use hcl_types::{Design, Order};
+use hcl_types::OrderedDesign;
 use nets::NetBuilder;
 use std::alloc::Global;
 use y86_base::{Items, Variant};
@@ -21,24 +21,23 @@ use y86_base::{Items, Variant};
 pub fn designed_rules<N: RuleFamily>(
     alloc: Global,
     variant: Variant,
-    design: &Design,
-    order: &Order,
+    ordered: &OrderedDesign,
     rules: &N,
 ) -> Result<Rules, CtlFault>
-    requires bound { IsBound N.rows design.now.terms }
-    requires ordered { IsOrderOf N.rows design.now.terms order.now.ids }
-    ensures rules { IfOk result (λ r. AreDesignedRules N.rows N.field N.bits (λ i w α cv. not (N.may rules.now w α cv) || N.asks rules.now i w α cv) design.now.terms r.net r.list) }
+    requires bound { IsBound N.rows ordered.now.design.terms }
+    requires ordered { IsOrderOf N.rows ordered.now.design.terms ordered.now.order.ids }
+    ensures rules { IfOk result (λ r. AreDesignedRules N.rows N.field N.bits (λ i w α cv. not (N.may rules.now w α cv) || N.asks rules.now i w α cv) ordered.now.design.terms r.net r.list) }
     ensures variant { IfOk result (λ r. r.variant ≡ variant) }
-    ensures atoms { IfOk result (λ r. AreAtoms N.rows design.now.terms r.atoms) }
-    ensures fault { IfErr result (IsCtlFault N.rows design.now.terms) }
+    ensures atoms { IfOk result (λ r. AreAtoms N.rows ordered.now.design.terms r.atoms) }
+    ensures fault { IfErr result (IsCtlFault N.rows ordered.now.design.terms) }
 {
     let table = match rules.table(alloc) {
         Ok(table) => table,
         Err(_) => return Err(CtlFault::Memory),
     };
-    let listed = atoms(alloc, design, &table, order)?;
+    let listed = atoms(alloc, ordered, &table)?;
     let mut b = NetBuilder::new(alloc, rules.bit_count() + listed.len() as u32);
-    let ctl = translate(alloc, design, &table, order, rules.field_places(), &mut b)?;
+    let ctl = translate(alloc, ordered, &table, rules.field_places(), &mut b)?;
     match numbered_rules(alloc, &mut b, &ctl, rules) {
         Err(_) => Err(CtlFault::Memory),
         Ok(list) => Ok(Rules {
@@ -51,13 +50,13 @@ pub fn designed_rules<N: RuleFamily>(
 }
 
 /// The 16 rules of a design for SEQ.
-pub fn seq_rules(alloc: Global, v: Variant, d: &Design, o: &Order) -> Result<Rules, CtlFault>
-    requires bound { IsBound seq_rows d.now.terms }
-    requires ordered { IsOrderOf seq_rows d.now.terms o.now.ids }
-    ensures rules { IfOk result (λ r. AreSeqRules v d.now.terms r.net r.list) }
+pub fn seq_rules(alloc: Global, v: Variant, ordered: &OrderedDesign) -> Result<Rules, CtlFault>
+    requires bound { IsBound seq_rows ordered.now.design.terms }
+    requires ordered { IsOrderOf seq_rows ordered.now.design.terms ordered.now.order.ids }
+    ensures rules { IfOk result (λ r. AreSeqRules v ordered.now.design.terms r.net r.list) }
     ensures variant { IfOk result (λ r. r.variant ≡ v) }
-    ensures atoms { IfOk result (λ r. AreAtoms seq_rows d.now.terms r.atoms) }
-    ensures fault { IfErr result (IsCtlFault seq_rows d.now.terms) }
+    ensures atoms { IfOk result (λ r. AreAtoms seq_rows ordered.now.design.terms r.atoms) }
+    ensures fault { IfErr result (IsCtlFault seq_rows ordered.now.design.terms) }
 {
-    designed_rules(alloc, v, d, o, &SeqRules { variant: v })
+    designed_rules(alloc, v, ordered, &SeqRules { variant: v })
 }

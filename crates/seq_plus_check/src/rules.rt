@@ -22,7 +22,7 @@ use ctl_atoms::CtlFault;
 use ctl_picks::Controls;
 use ctl_given::Place;
 use ctl_rules::{NextPcInputs, RowGates, Rules, by_icode, next_is};
-use hcl_types::{Design, Order, Table};
+use hcl_types::{OrderedDesign, Table};
 use net_fields::below;
 use nets::NetBuilder;
 use seq_obligations::{
@@ -138,15 +138,14 @@ impl RuleFamily for PlusRules {
 pub fn plus_rules(
     alloc: Global,
     variant: Variant,
-    design: &Design,
-    order: &Order,
+    ordered: &OrderedDesign,
 ) -> Result<Rules, CtlFault>
-    requires bound { IsBound plus_rows design.now.terms }
-    requires ordered { IsOrderOf plus_rows design.now.terms order.now.ids }
-    ensures rules { IfOk result (λ r. ArePlusRules variant design.now.terms r.net r.list) }
+    requires bound { IsBound plus_rows ordered.now.design.terms }
+    requires ordered { IsOrderOf plus_rows ordered.now.design.terms ordered.now.order.ids }
+    ensures rules { IfOk result (λ r. ArePlusRules variant ordered.now.design.terms r.net r.list) }
     ensures variant { IfOk result (λ r. r.variant ≡ variant) }
-    ensures atoms { IfOk result (λ r. AreAtoms plus_rows design.now.terms r.atoms) }
-    ensures fault { IfErr result (IsCtlFault plus_rows design.now.terms) }
+    ensures atoms { IfOk result (λ r. AreAtoms plus_rows ordered.now.design.terms r.atoms) }
+    ensures fault { IfErr result (IsCtlFault plus_rows ordered.now.design.terms) }
 {
-    designed_rules(alloc, variant, design, order, &PlusRules { variant })
+    designed_rules(alloc, variant, ordered, &PlusRules { variant })
 }

@@ -9,7 +9,7 @@ ghost use Rattle.ctl_verdicts.specs.ObligationSet.{IsFault};
 use crate::rules::plus_rules;
 use ctl_atoms::Atom;
 use ctl_verdicts::{CheckFault, check_fault, decide};
-use hcl_types::{Design, Order};
+use hcl_types::OrderedDesign;
 use nets::Valuation;
 use std::alloc::Global;
 use y86_base::{Items, Memory, Variant};
@@ -31,16 +31,15 @@ pub enum Plain16 {
 pub fn check_plus(
     alloc: Global,
     variant: Variant,
-    design: &Design,
-    order: &Order,
+    ordered: &OrderedDesign,
 ) -> Result<Plain16, CheckFault>
-    requires bound { IsBound plus_rows design.now.terms }
-    requires ordered { IsOrderOf plus_rows design.now.terms order.now.ids }
-    ensures verdict { IfOk result (IsPlusVerdict variant design.now.terms) }
-    ensures refines { IfOk result (λ r. is_yes r ≡ true → RefinesPlus variant design.now.terms) }
-    ensures fault { IfErr result (IsFault plus_rows design.now.terms) }
+    requires bound { IsBound plus_rows ordered.now.design.terms }
+    requires ordered { IsOrderOf plus_rows ordered.now.design.terms ordered.now.order.ids }
+    ensures verdict { IfOk result (IsPlusVerdict variant ordered.now.design.terms) }
+    ensures refines { IfOk result (λ r. is_yes r ≡ true → RefinesPlus variant ordered.now.design.terms) }
+    ensures fault { IfErr result (IsFault plus_rows ordered.now.design.terms) }
 {
-    let rules = match plus_rules(alloc, variant, design, order) {
+    let rules = match plus_rules(alloc, variant, ordered) {
         Ok(rules) => rules,
         Err(fault) => return Err(check_fault(fault)),
     };

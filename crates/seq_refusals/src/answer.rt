@@ -11,7 +11,7 @@ ghost use Rattle.seq_refusals.specs.Failures.{AreRulesOf, IsFailure};
 use control_check::{CheckFault, FailedRule, check_fault, decide};
 use ctl_atoms::CtlFault;
 use ctl_rules::{Rule, Rules};
-use hcl_types::{Design, Order};
+use hcl_types::OrderedDesign;
 use nets::Net;
 use seq_diagnosis::{Refusal, Refutation, SeqFile, diagnose};
 use seq_obligations::seq_rules;
@@ -31,18 +31,17 @@ fn rules_of(
     alloc: Global,
     which: Datapath,
     v: Variant,
-    d: &Design,
-    o: &Order,
+    ordered: &OrderedDesign,
 ) -> Result<Rules, CtlFault>
-    requires bound { IsBound (rows_of which) d.now.terms }
-    requires ordered { IsOrderOf (rows_of which) d.now.terms o.now.ids }
-    ensures rules { IfOk result (λ r. AreRulesOf which v d.now.terms r.net r.list) }
-    ensures atoms { IfOk result (λ r. AreAtoms (rows_of which) d.now.terms r.atoms) }
-    ensures fault { IfErr result (IsCtlFault (rows_of which) d.now.terms) }
+    requires bound { IsBound (rows_of which) ordered.now.design.terms }
+    requires ordered { IsOrderOf (rows_of which) ordered.now.design.terms ordered.now.order.ids }
+    ensures rules { IfOk result (λ r. AreRulesOf which v ordered.now.design.terms r.net r.list) }
+    ensures atoms { IfOk result (λ r. AreAtoms (rows_of which) ordered.now.design.terms r.atoms) }
+    ensures fault { IfErr result (IsCtlFault (rows_of which) ordered.now.design.terms) }
 {
     match which {
-        Datapath::Seq => seq_rules(alloc, v, d, o),
-        Datapath::Plus => plus_rules(alloc, v, d, o),
+        Datapath::Seq => seq_rules(alloc, v, ordered),
+        Datapath::Plus => plus_rules(alloc, v, ordered),
     }
 }
 
@@ -70,11 +69,11 @@ fn refute(
     rules: &Rules,
     failure: FailedRule,
 ) -> Result<Refutation, Memory>
-    requires ordered { IsOrderOf (rows_of file.now.which) file.now.design.now.terms file.now.order.now.ids }
-    requires rules { AreRulesOf file.now.which file.now.variant file.now.design.now.terms rules.now.net rules.now.list }
-    requires atoms { AreAtoms (rows_of file.now.which) file.now.design.now.terms rules.now.atoms }
+    requires ordered { IsOrderOf (rows_of file.now.which) file.now.ordered.now.design.terms file.now.ordered.now.order.ids }
+    requires rules { AreRulesOf file.now.which file.now.variant file.now.ordered.now.design.terms rules.now.net rules.now.list }
+    requires atoms { AreAtoms (rows_of file.now.which) file.now.ordered.now.design.terms rules.now.atoms }
     requires failure { IsFailure rules.now.net rules.now.list failure }
-    ensures refutation { IfOk result (spec.IsRefutation file.now.which file.now.variant file.now.design.now.terms rules.now.atoms) }
+    ensures refutation { IfOk result (spec.IsRefutation file.now.which file.now.variant file.now.ordered.now.design.terms rules.now.atoms) }
     ensures rule { IfOk result (λ x. x.rule ≡ failure.rule) }
     ensures valuation { IfOk result (λ x. x.valuation ≡ failure.valuation) }
 {
@@ -111,12 +110,12 @@ fn refute_at(
     first: &Refutation,
     others: &mut Vec<Refutation>,
 ) -> Result<(), Memory>
-    requires ordered { IsOrderOf (rows_of file.now.which) file.now.design.now.terms file.now.order.now.ids }
-    requires rules { AreRulesOf file.now.which file.now.variant file.now.design.now.terms rules.now.net rules.now.list }
-    requires atoms { AreAtoms (rows_of file.now.which) file.now.design.now.terms rules.now.atoms }
+    requires ordered { IsOrderOf (rows_of file.now.which) file.now.ordered.now.design.terms file.now.ordered.now.order.ids }
+    requires rules { AreRulesOf file.now.which file.now.variant file.now.ordered.now.design.terms rules.now.net rules.now.list }
+    requires atoms { AreAtoms (rows_of file.now.which) file.now.ordered.now.design.terms rules.now.atoms }
     requires within { k < length rules.now.list }
-    requires refuted { spec.AreRefuted file.now.which file.now.variant file.now.design.now.terms rules.now.atoms k (first.now ∷ others.old.items) }
-    ensures { OnOk result (spec.AreRefuted file.now.which file.now.variant file.now.design.now.terms rules.now.atoms (k + 1) (first.now ∷ others.new.items)) }
+    requires refuted { spec.AreRefuted file.now.which file.now.variant file.now.ordered.now.design.terms rules.now.atoms k (first.now ∷ others.old.items) }
+    ensures { OnOk result (spec.AreRefuted file.now.which file.now.variant file.now.ordered.now.design.terms rules.now.atoms (k + 1) (first.now ∷ others.new.items)) }
 {
     let rule = rule_at(rules.list.items(), k);
     match decide_one(alloc, &rules.net, rule)? {
@@ -136,12 +135,12 @@ fn refute_others(
     rules: &Rules,
     first: &Refutation,
 ) -> Result<Vec<Refutation>, Memory>
-    requires ordered { IsOrderOf (rows_of file.now.which) file.now.design.now.terms file.now.order.now.ids }
-    requires rules { AreRulesOf file.now.which file.now.variant file.now.design.now.terms rules.now.net rules.now.list }
-    requires atoms { AreAtoms (rows_of file.now.which) file.now.design.now.terms rules.now.atoms }
+    requires ordered { IsOrderOf (rows_of file.now.which) file.now.ordered.now.design.terms file.now.ordered.now.order.ids }
+    requires rules { AreRulesOf file.now.which file.now.variant file.now.ordered.now.design.terms rules.now.net rules.now.list }
+    requires atoms { AreAtoms (rows_of file.now.which) file.now.ordered.now.design.terms rules.now.atoms }
     requires within { first.now.rule ≤ length rules.now.list }
-    requires first { spec.AreRefuted file.now.which file.now.variant file.now.design.now.terms rules.now.atoms first.now.rule (first.now ∷ []) }
-    ensures { IfOk result (λ others. spec.AreRefuted file.now.which file.now.variant file.now.design.now.terms rules.now.atoms (length rules.now.list) (first.now ∷ others.items)) }
+    requires first { spec.AreRefuted file.now.which file.now.variant file.now.ordered.now.design.terms rules.now.atoms first.now.rule (first.now ∷ []) }
+    ensures { IfOk result (λ others. spec.AreRefuted file.now.which file.now.variant file.now.ordered.now.design.terms rules.now.atoms (length rules.now.list) (first.now ∷ others.items)) }
 {
     let mut others = Vec::new(alloc);
     let from = first.rule as usize;
@@ -162,11 +161,11 @@ fn refuse(
     rules: Rules,
     failure: FailedRule,
 ) -> Result<Refusal, Memory>
-    requires ordered { IsOrderOf (rows_of file.now.which) file.now.design.now.terms file.now.order.now.ids }
-    requires rules { AreRulesOf file.now.which file.now.variant file.now.design.now.terms rules.net rules.list }
-    requires atoms { AreAtoms (rows_of file.now.which) file.now.design.now.terms rules.atoms }
+    requires ordered { IsOrderOf (rows_of file.now.which) file.now.ordered.now.design.terms file.now.ordered.now.order.ids }
+    requires rules { AreRulesOf file.now.which file.now.variant file.now.ordered.now.design.terms rules.net rules.list }
+    requires atoms { AreAtoms (rows_of file.now.which) file.now.ordered.now.design.terms rules.atoms }
     requires failure { IsRuleDecision rules.net rules.list (Some failure) }
-    ensures { IfOk result (spec.IsRefusal file.now.which file.now.variant file.now.design.now.terms) }
+    ensures { IfOk result (spec.IsRefusal file.now.which file.now.variant file.now.ordered.now.design.terms) }
 {
     let first = refute(alloc, file, &rules, failure)?;
     let others = refute_others(alloc, file, &rules, &first)?;
@@ -184,16 +183,15 @@ pub fn diagnose_seq(
     alloc: Global,
     which: Datapath,
     v: Variant,
-    d: &Design,
-    o: &Order,
+    ordered: &OrderedDesign,
 ) -> Result<SeqAnswer, CheckFault>
-    requires bound { IsBound (rows_of which) d.now.terms }
-    requires ordered { IsOrderOf (rows_of which) d.now.terms o.now.ids }
-    ensures answer { IfOk result (spec.IsAnswer which v d.now.terms) }
-    ensures refines { IfOk result (λ answer. spec.is_yes answer ≡ true → spec.Refines which v d.now.terms) }
-    ensures fault { IfErr result (IsFault (rows_of which) d.now.terms) }
+    requires bound { IsBound (rows_of which) ordered.now.design.terms }
+    requires ordered { IsOrderOf (rows_of which) ordered.now.design.terms ordered.now.order.ids }
+    ensures answer { IfOk result (spec.IsAnswer which v ordered.now.design.terms) }
+    ensures refines { IfOk result (λ answer. spec.is_yes answer ≡ true → spec.Refines which v ordered.now.design.terms) }
+    ensures fault { IfErr result (IsFault (rows_of which) ordered.now.design.terms) }
 {
-    let rules = match rules_of(alloc, which, v, d, o) {
+    let rules = match rules_of(alloc, which, v, ordered) {
         Ok(rules) => rules,
         Err(fault) => return Err(check_fault(fault)),
     };
@@ -203,8 +201,7 @@ pub fn diagnose_seq(
             let file = SeqFile {
                 which,
                 variant: v,
-                design: d,
-                order: o,
+                ordered,
             };
             match refuse(alloc, &file, rules, failure) {
                 Ok(refusal) => Ok(SeqAnswer::No(refusal)),

@@ -16,7 +16,7 @@ use Rattle.seq_diagnosis.proofs.diagnosis.diagnose.Goals as goal
 pub returns : goal.returns
 returns c =
     let which = c.args.file.now.which in
-    let terms = c.args.file.now.design.now.terms in
+    let terms = c.args.file.now.ordered.now.design.terms in
     let atoms = c.args.atoms.now in
     let w = c.args.bits.now in
     let v = c.args.file.now.variant in
@@ -24,7 +24,7 @@ returns c =
     let α = truths_at which atoms w in
     let ls = c.of.result in
     let controls = subst (λ (xs : List Leaf). AreControls (rows_of which) terms (field_at (spots_of which) w) α (at xs)) (sym c.of.ensures) c.in_ok-leaves.ensures in
-    let given = atoms_given (rows_of which) terms c.args.file.now.order.now.ids atoms (total (spots_of which)) w c.requires.ordered c.requires.atoms in
+    let given = atoms_given (rows_of which) terms c.args.file.now.ordered.now.order.ids atoms (total (spots_of which)) w c.requires.ordered c.requires.atoms in
     let same = c.as_slice.ensures.value ∙ sym c.of.ensures in
     let all = requirements which v (numbers_at which w) i in
     let here = c.as_slice.result.now in

@@ -8,7 +8,7 @@ use Rattle.seq_refusals.proofs.answer.diagnose_seq.Goals as goal
 pub decide-requires : goal.decide-requires
 decide-requires c =
     let made = c.in-Ok.rules in
-    subst (HaveGatesOfNet made.net) (sym c.items.ensures) (gates_of c.args.which c.args.v c.args.d.now.terms made.net made.list c.args.o.now.ids c.requires.ordered c.in-Ok.ensures.rules)
+    subst (HaveGatesOfNet made.net) (sym c.items.ensures) (gates_of c.args.which c.args.v c.args.ordered.now.design.terms made.net made.list c.args.ordered.now.order.ids c.requires.ordered c.in-Ok.ensures.rules)
 
 pub refuse-requires-clause-failure : goal.refuse-requires-clause-failure
 refuse-requires-clause-failure c =
@@ -16,17 +16,17 @@ refuse-requires-clause-failure c =
     subst (λ (list : List Rule). IsRuleDecision made.net list (Some c.in-Ok-Some.failure)) c.items.ensures (rw c.in-Ok-Some.field-0-is at c.in-Ok-Some.ensures)
 
 pub returns-in-Err-clause-fault : goal.returns-in-Err-clause-fault
-returns-in-Err-clause-fault c = c.check_fault.ensures (rows_of c.args.which) c.args.d.now.terms c.in-Err.ensures.fault
+returns-in-Err-clause-fault c = c.check_fault.ensures (rows_of c.args.which) c.args.ordered.now.design.terms c.in-Err.ensures.fault
 
 pub returns-in-Ok-None-clause-answer : goal.returns-in-Ok-None-clause-answer
 returns-in-Ok-None-clause-answer c =
     let made = c.in-Ok.rules in
     let decided = subst (λ (list : List Rule). IsRuleDecision made.net list None) c.items.ensures (rw c.in-Ok-None.field-0-is at c.in-Ok-None.ensures) in
-    accepts c.args.which c.args.v c.args.d.now.terms made.net made.list c.args.o.now.ids c.requires.ordered c.in-Ok.ensures.rules decided
+    accepts c.args.which c.args.v c.args.ordered.now.design.terms made.net made.list c.args.ordered.now.order.ids c.requires.ordered c.in-Ok.ensures.rules decided
 
 pub returns-in-Ok-None-clause-refines : goal.returns-in-Ok-None-clause-refines
 returns-in-Ok-None-clause-refines c =
     let made = c.in-Ok.rules in
     let decided = subst (λ (list : List Rule). IsRuleDecision made.net list None) c.items.ensures (rw c.in-Ok-None.field-0-is at c.in-Ok-None.ensures) in
-    let accepted = accepts c.args.which c.args.v c.args.d.now.terms made.net made.list c.args.o.now.ids c.requires.ordered c.in-Ok.ensures.rules decided in
-    λ yes. refines c.args.which c.args.v c.args.d.now.terms c.args.o.now.ids c.requires.bound c.requires.ordered accepted
+    let accepted = accepts c.args.which c.args.v c.args.ordered.now.design.terms made.net made.list c.args.ordered.now.order.ids c.requires.ordered c.in-Ok.ensures.rules decided in
+    λ yes. refines c.args.which c.args.v c.args.ordered.now.design.terms c.args.ordered.now.order.ids c.requires.bound c.requires.ordered accepted

@@ -12,12 +12,12 @@ pub refute_others-requires-clause-within : goal.refute_others-requires-clause-wi
 refute_others-requires-clause-within c =
     let r = c.args.rules in
     subst (λ (n : ℕ). n ≤ length r.list) (sym c.in_ok-first.ensures.rule)
-    (within_list c.args.file.now.which c.args.file.now.variant c.args.file.now.design.now.terms r.net r.list c.args.file.now.order.now.ids c.requires.ordered c.requires.rules c.args.failure (failure_first r.net r.list c.args.failure c.requires.failure))
+    (within_list c.args.file.now.which c.args.file.now.variant c.args.file.now.ordered.now.design.terms r.net r.list c.args.file.now.ordered.now.order.ids c.requires.ordered c.requires.rules c.args.failure (failure_first r.net r.list c.args.failure c.requires.failure))
 
 pub refute_others-requires-clause-first : goal.refute_others-requires-clause-first
 refute_others-requires-clause-first c =
     let r = c.args.rules in
-    first_refuted c.args.file.now.which c.args.file.now.variant c.args.file.now.design.now.terms r.net r.list c.args.file.now.order.now.ids c.requires.ordered c.requires.rules r.atoms c.requires.atoms c.args.failure c.in_ok-first.first c.requires.failure
+    first_refuted c.args.file.now.which c.args.file.now.variant c.args.file.now.ordered.now.design.terms r.net r.list c.args.file.now.ordered.now.order.ids c.requires.ordered c.requires.rules r.atoms c.requires.atoms c.args.failure c.in_ok-first.first c.requires.failure
     c.in_ok-first.ensures.rule c.in_ok-first.ensures.refutation
 
 pub returns : goal.returns
@@ -25,11 +25,11 @@ returns c =
     let r = c.args.rules in
     let which = c.args.file.now.which in
     let v = c.args.file.now.variant in
-    let terms = c.args.file.now.design.now.terms in
+    let terms = c.args.file.now.ordered.now.design.terms in
     let x = c.in_ok-first.first in
-    let own = rejects which v terms r.net r.list c.args.file.now.order.now.ids c.requires.ordered c.requires.rules c.args.failure c.requires.failure in
+    let own = rejects which v terms r.net r.list c.args.file.now.ordered.now.order.ids c.requires.ordered c.requires.rules c.args.failure c.requires.failure in
     let by_bits = subst (λ (w : Valuation). Rejects which v terms c.args.failure.rule w.bits) (sym c.in_ok-first.ensures.valuation) own in
-    let count = count_is which v terms r.net r.list c.args.file.now.order.now.ids c.requires.ordered c.requires.rules in
+    let count = count_is which v terms r.net r.list c.args.file.now.ordered.now.order.ids c.requires.ordered c.requires.rules in
     record {
       atoms = c.requires.atoms;
       rejects = subst (λ (n : ℕ). Rejects which v terms n x.valuation.bits) (sym c.in_ok-first.ensures.rule) by_bits;
