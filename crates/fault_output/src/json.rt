@@ -4,9 +4,9 @@ ghost use Rattle.std.specs.Prelude.{◌≡◌, ◌++◌, codes, true, IfOk, OnOk
 ghost use Rattle.y86_base.specs.Numeral.{numeral};
 ghost use Rattle.fault_output.specs.Json as spec;
 
-use fault_report::{Datapath, Fault, Related, Report, datapath_name, put_decimal};
+use fault_report::{Datapath, Fault, Related, Report, datapath_name};
 use std::alloc::Global;
-use y86_base::{Memory, Numeral, put};
+use y86_base::{Memory, Numeral, put, put_decimal};
 
 /// Adds a byte of a string.
 fn put_char(out: &mut Vec<u8>, byte: u8) -> Result<(), Memory>

@@ -2,9 +2,9 @@
 ghost use Rattle.std.specs.Prelude.{◌≡◌, ◌++◌, IfOk, OnOk};
 ghost use Rattle.fault_output.specs.Lines as spec;
 
-use fault_report::{Fault, Report, put_decimal};
+use fault_report::{Fault, Report};
 use std::alloc::Global;
-use y86_base::{Memory, put};
+use y86_base::{Memory, put, put_decimal};
 
 /// Adds a line or a column, if there is one.
 #[tactic(auto, unfolding(crate::specs::Lines::place_text))]

@@ -6,7 +6,7 @@ ghost use Rattle.fault_report.specs.Told.{IsTold, Reports};
 use crate::asm_rules::{AsmRule, asm_rules};
 use crate::asm_tests::{AsmTest, Form};
 use crate::binding_faults::sort_faults;
-use crate::facts::{Fault, Related, Report, other_place, part, put};
+use crate::facts::{Fault, Related, Report, other_place, part};
 use crate::fill::{Words, filled, no_words};
 use crate::hcl_reading::{begins_with, is_text_of};
 use asm_faults::{LineFault, Part, faulty_lines, line_stop};
@@ -14,7 +14,7 @@ use hcl_tree::Text;
 use std::alloc::Global;
 use y86_base::{
     Items, Keyword, Memory, Variant, after_blanks, first_line, is_decimal, is_letter, is_name_byte,
-    keyword_at, meaning_of, register_names, split_name,
+    keyword_at, meaning_of, push, register_names, split_name,
 };
 use yas_asm::{
     AsmFault, AsmWhy, Directive, Operand, Reader, Shape, Statement, assemble, directives,
@@ -334,7 +334,7 @@ fn expected_names(alloc: Global, wants: Option<Part>) -> Result<Vec<&'static [u8
     let mut names: Vec<&'static [u8]> = Vec::new(alloc);
     match wants {
         None => Ok(names),
-        Some(wanted) => match put(&mut names, part_name(wanted)) {
+        Some(wanted) => match push(&mut names, part_name(wanted)) {
             Err(memory) => Err(memory),
             Ok(()) => Ok(names),
         },
@@ -349,7 +349,7 @@ fn first_places(alloc: Global, label: LabelFact) -> Result<Vec<Related>, Memory>
     }
     match other_place(alloc, b"first", label.name, label.first_line, 0) {
         Err(memory) => Err(memory),
-        Ok(place) => match put(&mut places, place) {
+        Ok(place) => match push(&mut places, place) {
             Err(memory) => Err(memory),
             Ok(()) => Ok(places),
         },
@@ -519,7 +519,7 @@ fn put_labels(
         match label_fault(alloc, variant, text, number, line) {
             Err(memory) => return Err(memory),
             Ok(None) => {}
-            Ok(Some(fault)) => match put(out, fault) {
+            Ok(Some(fault)) => match push(out, fault) {
                 Err(memory) => return Err(memory),
                 Ok(()) => {}
             },
@@ -548,7 +548,7 @@ fn put_lines(
         let line = line_at(text, fault.line);
         match line_saying(alloc, variant, fault.line, line, fault.why, fact) {
             Err(memory) => return Err(memory),
-            Ok(told) => match put(out, told) {
+            Ok(told) => match push(out, told) {
                 Err(memory) => return Err(memory),
                 Ok(()) => {}
             },
@@ -592,7 +592,7 @@ fn put_first(
         first_line: 0,
         size,
     };
-    put(
+    push(
         out,
         line_saying(alloc, variant, first.line, line, first.why, fact)?,
     )

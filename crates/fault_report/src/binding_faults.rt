@@ -3,7 +3,7 @@ ghost use Rattle.std.specs.List.Sorted.{IsPermutation};
 ghost use Rattle.hcl_types.specs.Tables.{IsSound};
 
 use crate::blame::{Blame, Blamed, first_blame, kind_of_row};
-use crate::facts::{Datapath, Fault, Related, datapath_name, other_place, put};
+use crate::facts::{Datapath, Fault, Related, datapath_name, other_place};
 use crate::fill::{Words, filled, words_about};
 use crate::hcl_reading::line_of;
 use hcl_binding::{BindWhy, bind};
@@ -15,7 +15,7 @@ use hcl_order::{OrderFault, order};
 use hcl_tree::{File, Item, Kind, Text};
 use hcl_types::{Row, Table};
 use std::alloc::Global;
-use y86_base::{Items, Memory, put as put_bytes};
+use y86_base::{Items, Memory, push, put};
 
 /// A text with its tokens, and the datapath whose names it may use.
 #[derive(Clone, Copy)]
@@ -244,7 +244,7 @@ fn put_unknown(
                 Vec::new(alloc),
             ) {
                 Err(memory) => return Err(memory),
-                Ok(fault) => match put(out, fault) {
+                Ok(fault) => match push(out, fault) {
                     Err(memory) => return Err(memory),
                     Ok(()) => {}
                 },
@@ -376,7 +376,7 @@ fn twice_fault(alloc: Global, source: &Source, token: &TokenAt) -> Result<Fault,
     let (line, column) = first_definition(source, found);
     let words = words_about(found, b"", b"", line, 0);
     let mut places = Vec::new(alloc);
-    put(
+    push(
         &mut places,
         other_place(alloc, b"first", found, line, column)?,
     )?;
@@ -439,7 +439,7 @@ fn put_items(
         match item_saying(alloc, source, rows, items, fault) {
             Err(memory) => return Err(memory),
             Ok(None) => {}
-            Ok(Some(told)) => match put(out, told) {
+            Ok(Some(told)) => match push(out, told) {
                 Err(memory) => return Err(memory),
                 Ok(()) => {}
             },
@@ -466,7 +466,7 @@ fn put_missing(
             Vec::new(alloc),
         ) {
             Err(memory) => return Err(memory),
-            Ok(fault) => match put(out, fault) {
+            Ok(fault) => match push(out, fault) {
                 Err(memory) => return Err(memory),
                 Ok(()) => {}
             },
@@ -515,9 +515,9 @@ pub fn binding_faults(
 
 /// Adds a name in backticks.
 fn put_name(out: &mut Vec<u8>, name: &[u8]) -> Result<(), Memory> {
-    put_bytes(out, b"`")?;
-    put_bytes(out, name)?;
-    put_bytes(out, b"`")
+    put(out, b"`")?;
+    put(out, name)?;
+    put(out, b"`")
 }
 
 /// The name of a row.
@@ -539,10 +539,10 @@ fn first_name<'a>(rows: &'a [Row], ids: &[u32]) -> &'a [u8] {
 /// Adds that one name needs another.
 fn put_need(out: &mut Vec<u8>, one: &[u8], other: &[u8]) -> Result<(), Memory> {
     if !out.is_empty() {
-        put_bytes(out, b", ")?;
+        put(out, b", ")?;
     }
     put_name(out, one)?;
-    put_bytes(out, b" needs ")?;
+    put(out, b" needs ")?;
     put_name(out, other)
 }
 
@@ -580,7 +580,7 @@ fn cycle_places(
         let (line, column) = first_definition(source, name);
         match other_place(alloc, b"cycle", name, line, column) {
             Err(memory) => return Err(memory),
-            Ok(place) => match put(&mut places, place) {
+            Ok(place) => match push(&mut places, place) {
                 Err(memory) => return Err(memory),
                 Ok(()) => {}
             },
@@ -621,7 +621,7 @@ pub fn table_faults(
             Err(OrderFault::Memory) => Err(Memory),
             Err(OrderFault::Cycle(ids)) => {
                 let mut out = Vec::new(alloc);
-                put(
+                push(
                     &mut out,
                     cycle_fault(alloc, source, table.rows.items(), ids.items())?,
                 )?;

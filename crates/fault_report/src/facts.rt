@@ -1,5 +1,5 @@
 //! What is reported of a file: its faults, each with its place, its sentence and related facts.
-ghost use Rattle.std.specs.Prelude.{◌≡◌, ◌++◌, ◌∷◌, [], OnOk};
+ghost use Rattle.std.specs.Prelude.{◌≡◌};
 ghost use Rattle.fault_report.specs.Datapaths as spec;
 
 use hcl_tree::Text;
@@ -69,16 +69,6 @@ pub fn datapath_name(datapath: Datapath) -> &'static [u8]
         Datapath::Seq => b"SEQ",
         Datapath::SeqPlus => b"SEQ+",
         Datapath::Pipe => b"PIPE",
-    }
-}
-
-/// Adds an element to a list.
-pub fn put<T: Drop>(list: &mut Vec<T>, last: T) -> Result<(), Memory>
-    ensures { OnOk result (list.new.items ≡ list.old.items ++ last ∷ []) }
-{
-    match list.push(last) {
-        Ok(()) => Ok(()),
-        Err(_) => Err(Memory),
     }
 }
 

@@ -1,9 +1,8 @@
 //! Fills the places of a pattern with words: `~found~` is replaced by what was found, and so on.
-ghost use Rattle.std.specs.Prelude.{◌≡◌, ◌≤◌, ◌++◌, length, OnOk};
-ghost use Rattle.y86_base.specs.Numeral.{numeral};
+ghost use Rattle.std.specs.Prelude.{◌≤◌, length};
 
 use std::alloc::Global;
-use y86_base::{Memory, Numeral, put};
+use y86_base::{Memory, put, put_decimal};
 
 /// What replaces the places of a pattern.
 #[derive(Clone, Copy, Debug)]
@@ -69,14 +68,6 @@ pub fn words_about<'a>(
         open_line: 0,
         number,
     }
-}
-
-/// Adds a decimal number to a text.
-pub fn put_decimal(out: &mut Vec<u8>, number: u64) -> Result<(), Memory>
-    ensures { OnOk result (out.new.items ≡ out.old.items ++ numeral 10 1 number) }
-{
-    let digits = Numeral::decimal(number);
-    put(out, digits.as_bytes())
 }
 
 /// Adds what replaces a place of a pattern.

@@ -2,13 +2,13 @@
 ghost use Rattle.hcl_types.specs.Tables.{IsSound};
 
 use crate::binding_faults::{Source, count_unknown, datapath_fault, table_faults};
-use crate::facts::{Datapath, Fault, Report, Tables, put};
+use crate::facts::{Datapath, Fault, Report, Tables};
 use crate::hcl_reading::reading_fault;
 use hcl_faults::{TokenAt, stop_in, token_list};
 use hcl_read::read;
 use hcl_types::Table;
 use std::alloc::Global;
-use y86_base::{Items, Memory};
+use y86_base::{Items, Memory, push};
 
 /// The table of a datapath.
 fn table_of(tables: &Tables, datapath: Datapath) -> &Table
@@ -100,7 +100,7 @@ fn faults_of_asked<'a>(
     };
     let rows = table_of(tables, asked).rows.items();
     let mut out = Vec::new(alloc);
-    put(&mut out, datapath_fault(alloc, &source, rows, other)?)?;
+    push(&mut out, datapath_fault(alloc, &source, rows, other)?)?;
     Ok(out)
 }
 
@@ -118,7 +118,7 @@ pub fn hcl_report(
 {
     if let Some(stop) = stop_in(alloc, text)? {
         let mut out = Vec::new(alloc);
-        put(&mut out, reading_fault(alloc, text, &stop)?)?;
+        push(&mut out, reading_fault(alloc, text, &stop)?)?;
         let faults = Items::of(out);
         return Ok(Report {
             datapath: asked,

@@ -1,12 +1,12 @@
 //! The fault of a text that is not HCL, as a sentence.
-use crate::facts::{Fault, Related, other_place, part, put};
+use crate::facts::{Fault, Related, other_place, part};
 use crate::fill::{Words, filled, no_words};
 use crate::hcl_rules::{HclRule, Test, hcl_rules};
 use hcl_faults::{Stopped, TokenAt, TokenKind as Kind, place_at, token_text};
 use hcl_read::HclWhy;
 use hcl_tree::Text;
 use std::alloc::Global;
-use y86_base::{Items, Memory, number_in_base, put as put_bytes};
+use y86_base::{Items, Memory, number_in_base, push, put};
 
 /// The facts that the tests of a rule need.
 #[derive(Clone, Copy)]
@@ -171,12 +171,12 @@ fn wanted_list(alloc: Global, kinds: &[Kind]) -> Result<Vec<u8>, Memory> {
     let mut out = Vec::new(alloc);
     for kind in kinds {
         if !out.is_empty() {
-            match put_bytes(&mut out, b", ") {
+            match put(&mut out, b", ") {
                 Err(memory) => return Err(memory),
                 Ok(()) => {}
             }
         }
-        match put_bytes(&mut out, kind_name(*kind)) {
+        match put(&mut out, kind_name(*kind)) {
             Err(memory) => return Err(memory),
             Ok(()) => {}
         }
@@ -188,7 +188,7 @@ fn wanted_list(alloc: Global, kinds: &[Kind]) -> Result<Vec<u8>, Memory> {
 fn expected_names(alloc: Global, kinds: &[Kind]) -> Result<Vec<&'static [u8]>, Memory> {
     let mut names = Vec::new(alloc);
     for kind in kinds {
-        match put(&mut names, kind_name(*kind)) {
+        match push(&mut names, kind_name(*kind)) {
             Err(memory) => return Err(memory),
             Ok(()) => {}
         }
@@ -242,7 +242,7 @@ fn put_related(
     let (line, column) = line_of(text, token);
     match other_place(alloc, role, told_text(text, token), line, column) {
         Err(memory) => Err(memory),
-        Ok(other) => put(list, other),
+        Ok(other) => push(list, other),
     }
 }
 

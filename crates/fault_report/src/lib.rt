@@ -18,7 +18,6 @@ mod show;
 
 pub use assembly::assembly_report;
 pub use facts::{Datapath, Fault, Related, Report, Tables, datapath_name};
-pub use fill::put_decimal;
 pub use hcl::hcl_report;
 pub use object::{is_source, object_report};
 pub use show::sentences_of;

@@ -2,11 +2,11 @@
 ghost use Rattle.y86_base.specs.Image.{IsSize};
 
 use crate::binding_faults::{NOTHING_SAID, Saying};
-use crate::facts::{Fault, Report, part, put};
+use crate::facts::{Fault, Report, part};
 use crate::fill::{filled, no_words};
 use hcl_tree::Text;
 use std::alloc::Global;
-use y86_base::{Items, Memory, Variant, first_line};
+use y86_base::{Items, Memory, Variant, first_line, push};
 use yas_asm::{Statement, read_line};
 use yo_object::{YoFault, YoWhy, line_digits, load};
 
@@ -136,7 +136,7 @@ fn put_faults(alloc: Global, text: &[u8], size: u64, out: &mut Vec<Fault>) -> Re
                 let number = passed.saturating_add(line);
                 match told(alloc, number, size, said_of(why)) {
                     Err(memory) => return Err(memory),
-                    Ok(fault) => match put(out, fault) {
+                    Ok(fault) => match push(out, fault) {
                         Err(memory) => return Err(memory),
                         Ok(()) => {}
                     },
@@ -196,7 +196,7 @@ pub fn object_report(alloc: Global, text: &[u8], size: u64) -> Result<Report, Me
         let line = statement_line(text);
         let said = if line > 0 { Said::Source } else { Said::Empty };
         let fault = told(alloc, line, size, said)?;
-        put(&mut out, fault)?;
+        push(&mut out, fault)?;
     }
     Ok(Report {
         datapath: None,

@@ -1,17 +1,16 @@
 //! All sentences on one kind of fault, with `~` around the names of what is filled in.
 use crate::asm_rules::{AsmRule, asm_rules};
 use crate::binding_faults::{Saying, binding_sayings};
-use crate::facts::put;
 use crate::hcl_rules::{HclRule, hcl_rules};
 use crate::object::object_sayings;
 use std::alloc::Global;
-use y86_base::Memory;
+use y86_base::{Memory, push};
 
 /// Adds the sentences of rules on HCL.
 fn put_hcl(out: &mut Vec<&'static [u8]>, rules: &[HclRule], code: &[u8]) -> Result<(), Memory> {
     for rule in rules {
         if rule.code == code {
-            match put(out, rule.sentence) {
+            match push(out, rule.sentence) {
                 Err(memory) => return Err(memory),
                 Ok(()) => {}
             }
@@ -28,7 +27,7 @@ fn put_assembly(
 ) -> Result<(), Memory> {
     for rule in rules {
         if rule.code == code {
-            match put(out, rule.sentence) {
+            match push(out, rule.sentence) {
                 Err(memory) => return Err(memory),
                 Ok(()) => {}
             }
@@ -71,7 +70,7 @@ fn put_sayings(
 ) -> Result<(), Memory> {
     for saying in sayings {
         if saying.code == code {
-            match put(out, saying.pattern) {
+            match push(out, saying.pattern) {
                 Err(memory) => return Err(memory),
                 Ok(()) => {}
             }

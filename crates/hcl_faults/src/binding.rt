@@ -8,12 +8,11 @@ ghost use Rattle.hcl_types.specs.Tables.{IsSound};
 ghost use Rattle.hcl_binding.specs.declared.fault.BindWhy.TheVariants.{Memory as OutOfMemory, Twice as Again};
 ghost use Rattle.hcl_faults.specs.BindFaults as spec;
 
-use crate::lists::put;
 use hcl_binding::{BindFault, BindWhy, bind};
 use hcl_tree::{File, Item, Text};
 use hcl_types::{Row, Table, is_defined};
 use std::alloc::Global;
-use y86_base::{Items, Memory};
+use y86_base::{Items, Memory, push};
 
 /// The fault of an item; items are counted from 0.
 #[derive(Debug, PartialEq, Drop)]
@@ -62,7 +61,7 @@ pub fn missing_names(alloc: Global, rows: &[Row], items: &[Item]) -> Result<Vec<
         if is_defined(&row.role) && !is_defined_by(items, &row.name) {
             match row.name.copy(alloc) {
                 Err(memory) => return Err(memory),
-                Ok(name) => match put(&mut names, name) {
+                Ok(name) => match push(&mut names, name) {
                     Ok(()) => {}
                     Err(memory) => return Err(memory),
                 },
@@ -105,7 +104,7 @@ fn fault_alone(
     ensures { IfOk result (λ r. (r.0 ≡ item_fault table.now.rows [] item) × (r.1 ≡ item)) }
 {
     let mut one = Vec::new(alloc);
-    match put(&mut one, item) {
+    match push(&mut one, item) {
         Err(memory) => return Err(memory),
         Ok(()) => {}
     }
@@ -192,7 +191,7 @@ fn put_fault(list: &mut Vec<ItemFault>, item: usize, fault: Option<BindFault>) -
 {
     match fault {
         None => Ok(()),
-        Some(fault) => put(list, ItemFault { item, fault }),
+        Some(fault) => push(list, ItemFault { item, fault }),
     }
 }
 
@@ -213,7 +212,7 @@ fn add_item(
         Err(memory) => Err(memory),
         Ok((fault, item)) => match put_fault(list, index, fault) {
             Err(memory) => Err(memory),
-            Ok(()) => put(done, item),
+            Ok(()) => push(done, item),
         },
     }
 }

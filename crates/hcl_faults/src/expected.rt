@@ -8,10 +8,9 @@ ghost use Rattle.hcl_faults.specs.Expected as spec;
 ghost use Rattle.hcl_faults.specs.Kinds as kinds;
 
 use crate::kinds::{TokenKind, sample};
-use crate::lists::put;
 use hcl_read::{HclWhy, ReaderState, after_gap, start, step, token};
 use std::alloc::Global;
-use y86_base::Memory;
+use y86_base::{Memory, push};
 
 /// The kinds of token that occur in files.
 pub static FOLLOW_KINDS: [TokenKind; 21] = [
@@ -118,7 +117,7 @@ pub fn expected_kinds(alloc: Global, text: &[u8], count: usize) -> Result<Vec<To
             Err(memory) => return Err(memory),
             Ok(false) => {}
             Ok(true) => {
-                match put(&mut list, *kind) {
+                match push(&mut list, *kind) {
                     Ok(()) => {}
                     Err(memory) => return Err(memory),
                 }

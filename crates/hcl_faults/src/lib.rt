@@ -7,7 +7,6 @@ mod brackets;
 mod cases;
 mod expected;
 mod kinds;
-mod lists;
 mod places;
 mod stop;
 mod tokens;

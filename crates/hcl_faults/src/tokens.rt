@@ -4,10 +4,9 @@ ghost use Rattle.hcl_read.specs.Tokens.{items};
 ghost use Rattle.hcl_faults.specs.Places as spec;
 
 use crate::kinds::{TokenKind, kind_of};
-use crate::lists::put;
 use hcl_read::{after_gap, token};
 use std::alloc::Global;
-use y86_base::Memory;
+use y86_base::{Memory, push};
 
 /// A token of a text: its kind, and the number of bytes before it and up to its end. If no token begins there
 /// (`BadByte`, `Stray`), the end is that of the text.
@@ -43,7 +42,7 @@ pub fn token_list(alloc: Global, text: &[u8]) -> Result<Vec<TokenAt>, Memory>
             Ok(Some((kind, here, behind))) => {
                 let from = text.len() - here.len();
                 let to = text.len() - behind.len();
-                match put(&mut list, TokenAt { kind, from, to }) {
+                match push(&mut list, TokenAt { kind, from, to }) {
                     Ok(()) => rest = behind,
                     Err(memory) => return Err(memory),
                 }
