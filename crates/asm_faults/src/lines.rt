@@ -5,7 +5,7 @@ ghost use Rattle.y86_base.specs.Text.{lines};
 ghost use Rattle.asm_faults.specs.Faulty as spec;
 
 use std::alloc::Global;
-use y86_base::{Memory, Variant, first_line};
+use y86_base::{Memory, Variant, first_line, push};
 use yas_asm::{AsmWhy, read_line};
 
 /// A line, counted from 1, with the reason why it is refused by itself.
@@ -26,10 +26,7 @@ fn note_line(
 {
     match read_line(variant, line) {
         Ok(_) => Ok(()),
-        Err(why) => match list.push(LineFault { line: number, why }) {
-            Ok(()) => Ok(()),
-            Err(_) => Err(Memory),
-        },
+        Err(why) => push(list, LineFault { line: number, why }),
     }
 }
 

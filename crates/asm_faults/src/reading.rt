@@ -1,5 +1,5 @@
 //! Reads the tokens of a line; each function also returns the bytes after its token.
-ghost use Rattle.std.specs.Prelude.{◌≡◌, MatchOption, None, Some, length, IsTrue, ◌≤◌};
+ghost use Rattle.std.specs.Prelude.{◌≡◌, MatchOption, None, Some};
 ghost use Rattle.std.specs.Option.{option_copied};
 ghost use Rattle.yas_asm.specs.Comments as comments;
 ghost use Rattle.yas_asm.specs.Grammar as grammar;
@@ -9,11 +9,8 @@ ghost use Rattle.asm_faults.specs.Stops as spec;
 ghost use Rattle.yas_asm.specs.declared.statement.Width.TheVariants.{Eight};
 
 use crate::parts::Part;
-use y86_base::{
-    Number, after_blanks, after_byte, decimal_at, is_hex, is_letter, keyword_at, number_in_base,
-    register_names, split_hex, split_name,
-};
-use yas_asm::{Directive, Reader, directives};
+use y86_base::{Number, after_blanks, after_byte, keyword_at, register_names, split_name};
+use yas_asm::{Directive, Reader, directives, is_name_start, number_at};
 
 /// The bytes after a sign.
 #[tactic(auto, unfolding(yas_asm::specs::Tokens::sign))]
@@ -34,12 +31,6 @@ fn after_sign(bytes: &[u8], wanted: u8) -> &[u8]
     }
 }
 
-fn is_name_start(byte: u8) -> bool
-    ensures { result ≡ tokens.is_name_start byte }
-{
-    is_letter(byte) || byte == b'_'
-}
-
 /// The name in front, and the bytes after it.
 #[tactic(auto, unfolding(yas_asm::specs::Tokens::name))]
 pub fn name(bytes: &[u8]) -> Option<(&[u8], &[u8])>
@@ -50,37 +41,6 @@ pub fn name(bytes: &[u8]) -> Option<(&[u8], &[u8])>
         return None;
     }
     Some(split_name(text))
-}
-
-fn is_hex_number(bytes: &[u8]) -> bool
-    ensures value { result ≡ tokens.is_hex_number bytes.now }
-    ensures prefix { IsTrue result → 2 ≤ length bytes.now }
-{
-    match bytes.strip_prefix(b"0x") {
-        None => false,
-        Some(digits) => match digits.first() {
-            None => false,
-            Some(byte) => is_hex(*byte),
-        },
-    }
-}
-
-/// The number at the start of a text without leading blanks, and the bytes after it.
-fn number_at(bytes: &[u8]) -> Option<(Number, &[u8])>
-    ensures { MatchOption result (tokens.number_at bytes.now ≡ None)
-        (λ x. tokens.number_at bytes.now ≡ Some (x.0, x.1.now)) }
-{
-    if !is_hex_number(bytes) {
-        return decimal_at(bytes);
-    }
-    let (digits, behind) = split_hex(bytes.split_at(2).1);
-    let magnitude = number_in_base(16, digits);
-    let negative = false;
-    let number = Number {
-        negative,
-        magnitude,
-    };
-    Some((number, behind))
 }
 
 /// The number in front, and the bytes after it.

@@ -1,13 +1,12 @@
 //! Finds where a line stops being well-formed, and what the grammar requires there.
 ghost use Rattle.std.specs.Prelude.{◌≡◌, MatchOption, None, Some};
-ghost use Rattle.yas_asm.specs.Tables as tables;
 ghost use Rattle.yas_asm.specs.Tokens as tokens;
 ghost use Rattle.asm_faults.specs.Stops as spec;
 
 use crate::parts::{Part, parts_of_directive, parts_of_shape};
 use crate::reading::{after_label, after_part, directive, ends, name};
-use y86_base::{Variant, meaning_of};
-use yas_asm::{Operation, mnemonics};
+use y86_base::Variant;
+use yas_asm::mnemonic;
 
 /// The first part that is not where it should be, and the bytes there.
 #[tactic(auto, unfolding(crate::specs::Stops::stop_of))]
@@ -27,14 +26,6 @@ fn stop_of<'a>(parts: &[Part], bytes: &'a [u8]) -> Option<(Part, &'a [u8])>
         }
     }
     None
-}
-
-/// The operation that a name means as a mnemonic.
-#[tactic(auto, unfolding(yas_asm::specs::Tables::mnemonic))]
-fn mnemonic(variant: Variant, name: &[u8]) -> Option<Operation>
-    ensures { result ≡ tables.mnemonic variant name.now }
-{
-    meaning_of(mnemonics(variant), name)
 }
 
 /// Where a mnemonic with its operands stops.

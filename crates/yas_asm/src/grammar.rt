@@ -222,8 +222,9 @@ fn operands_of<'a>(reader: &mut Reader<'a>, operation: Operation) -> Option<Stat
     }
 }
 
+/// The operation that a name means as a mnemonic.
 #[tactic(auto, unfolding(crate::specs::Tables::mnemonic))]
-fn mnemonic(variant: Variant, name: &[u8]) -> Option<Operation>
+pub fn mnemonic(variant: Variant, name: &[u8]) -> Option<Operation>
     ensures { result ≡ tables.mnemonic variant name.now }
 {
     meaning_of(mnemonics(variant), name)

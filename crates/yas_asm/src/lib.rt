@@ -20,9 +20,10 @@ mod used;
 
 pub use assembler::assemble;
 pub use fault::{AsmFault, AsmWhy};
-pub use grammar::read_line;
+pub use grammar::{mnemonic, read_line};
 pub use listing::{Line, Listing};
 pub use name::Name;
-pub use reader::Reader;
+pub use number::number_at;
+pub use reader::{Reader, is_name_start};
 pub use statement::{Directive, Operand, Operation, Parsed, Shape, Statement, Width};
 pub use tables::{directives, mnemonics};

@@ -17,7 +17,7 @@ fn is_hex_number(bytes: &[u8]) -> bool
     }
 }
 
-/// The number in front, and the bytes after it.
+/// The number at the start of a text without leading blanks, and the bytes after it.
 pub fn number_at(bytes: &[u8]) -> Option<(Number, &[u8])>
     ensures { MatchOption result (tokens.number_at bytes.now ≡ None)
         (λ x. tokens.number_at bytes.now ≡ Some (x.0, x.1.now)) }

@@ -30,7 +30,8 @@ impl<'a> Model for Reader<'a> {
     ghost view = { λ reader. reader.rest.now };
 }
 
-fn is_name_start(byte: u8) -> bool
+/// Whether a name can begin with a byte.
+pub fn is_name_start(byte: u8) -> bool
     ensures { result ≡ tokens.is_name_start byte }
 {
     is_letter(byte) || byte == b'_'
