@@ -3,7 +3,7 @@ ghost use Rattle.std.specs.Prelude.{◌≡◌, ◌++◌, OnOk, IfOk, if◌then�
 ghost use Rattle.hcl_types.specs.Tables.{inputs, is_defined, is_given, known, needs, term_at};
 ghost use Rattle.hcl_types.specs.Terms.{names};
 
-use hcl_types::{NameId, Role, Row, Term, put_names};
+use hcl_types::{NameId, Role, Row, Term, is_defined, put_names};
 use std::alloc::{AllocError, Global};
 use y86_base::Items;
 
@@ -18,16 +18,6 @@ fn put_needs(role: &Role, terms: &[Term], k: usize, own: &mut Vec<NameId>) -> Re
         },
         Role::Hardware(ids) => own.extend_from_slice(ids.items()),
         Role::Constant(_) | Role::State => Ok(()),
-    }
-}
-
-/// Whether the HCL file defines a row.
-fn is_from_file(role: &Role) -> bool
-    ensures { result ≡ is_defined role.now }
-{
-    match role {
-        Role::Defined => true,
-        Role::Constant(_) | Role::State | Role::Hardware(_) => false,
     }
 }
 
@@ -55,7 +45,7 @@ pub fn needs_of_rows(
         let mut own = Vec::new(alloc);
         put_needs(&row.role, terms, k, &mut own)?;
         all.push(Items::of(own))?;
-        if is_from_file(&row.role) {
+        if is_defined(&row.role) {
             k += 1;
         }
     }
