@@ -1,9 +1,8 @@
 //! Both runs in lockstep: each record that retires is compared with that of the next instruction.
-ghost use Rattle.std.specs.Prelude.{◌≡◌, ◌<◌, ◌≤◌, ◌^◌, ◌+◌, IfOk, MatchResult};
+ghost use Rattle.std.specs.Prelude.{◌<◌, ◌≤◌, ◌^◌, ◌+◌, IfOk, MatchResult};
 ghost use Rattle.cosimulation.specs.Lockstep.{EndsAs, GoApart, GoBoth, IsCompared};
 ghost use Rattle.dp_signals.specs.PipeTable.{pipe_rows};
 ghost use Rattle.hcl_types.specs.Tables.{IsBound, IsOrderOf};
-ghost use Rattle.pipe_path.specs.Calls.{record_in};
 ghost use Rattle.pipe_path.specs.Pipe as path;
 ghost use Rattle.y86_isa.specs.Machine.{start};
 
@@ -13,7 +12,7 @@ use dp_machines::is_aok_stat;
 use dp_signals::constant_words;
 use hcl_compile::compile;
 use hcl_types::{OrderedDesign, SignalEval};
-use pipe_path::{Cycled, Pipe};
+use pipe_path::{Pipe, record_of};
 use std::alloc::Global;
 use y86_base::{Image, Memory, Variant};
 use y86_isa::{Machine, Rec, step};
@@ -40,17 +39,6 @@ pub enum Compared {
     Record(RecordDiffers),
     /// The pipeline ended after the same records, this number of them and of cycles, in a state that differs in this part.
     State(u64, u64, Part),
-}
-
-/// The record in an answer of `cycle`.
-fn record_of(cycled: Cycled) -> Option<Rec>
-    ensures { result ≡ record_in cycled }
-{
-    match cycled {
-        Cycled::Retired(record) => Some(record),
-        Cycled::Stopped(retired) | Cycled::Pip(retired) => retired,
-        Cycled::Bubble | Cycled::Ended => None,
-    }
 }
 
 /// Runs one cycle, and the next instruction if a record retired. Returns how many retired, 0 or 1, or the two records

@@ -5,4 +5,4 @@ mod laws;
 mod pipe;
 
 pub use laws::{law_of_calls, law_of_runs, law_of_solutions};
-pub use pipe::{Cycled, Pipe};
+pub use pipe::{Cycled, Pipe, record_of};

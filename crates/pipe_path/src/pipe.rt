@@ -42,6 +42,17 @@ pub enum Cycled {
     Ended,
 }
 
+/// The record of an instruction that retired.
+pub fn record_of(cycled: Cycled) -> Option<Rec>
+    ensures { result ≡ record_in cycled }
+{
+    match cycled {
+        Cycled::Retired(record) => Some(record),
+        Cycled::Stopped(retired) | Cycled::Pip(retired) => retired,
+        Cycled::Bubble | Cycled::Ended => None,
+    }
+}
+
 /// A pipelined machine: a design with an order of its signals, an evaluator of the design, and the current state. The
 /// values of its signals are kept from cycle to cycle: as a cycle begins, they hold the constants and the words of the
 /// state. `fits` says whether the evaluator's assumptions fit the constants.

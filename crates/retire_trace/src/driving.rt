@@ -1,14 +1,13 @@
 //! Drives: cycles until a machine stops, with a trace.
-ghost use Rattle.std.specs.Prelude.{◌≡◌, ◌<◌, ◌≤◌, ◌+◌, ◌^◌, ℕ, List, OnErr, IfOk};
+ghost use Rattle.std.specs.Prelude.{◌<◌, ◌≤◌, ◌+◌, ◌^◌, ℕ, List, OnErr, IfOk};
 ghost use Rattle.wb_io.specs.Causes.{CountsFaults};
 ghost use Rattle.wb_io.specs.Sinks.{Appended};
-ghost use Rattle.pipe_path.specs.Calls.{record_in};
 ghost use Rattle.retire_trace.specs.Drive as spec;
 
 use crate::trace_line::line;
 use dp_machines::is_aok_stat;
 use hcl_types::SignalEval;
-use pipe_path::{Cycled, Pipe};
+use pipe_path::{Pipe, record_of};
 use wb_io::{Failed, Sink};
 use y86_base::Stat;
 use y86_isa::Rec;
@@ -19,19 +18,6 @@ pub struct Drove {
     pub cycles: u64,
     pub retired: u64,
     pub end: Stat,
-}
-
-/// The record in the result of `cycle`.
-fn record_of(cycled: Cycled) -> Option<Rec>
-    ensures { result ≡ record_in cycled }
-{
-    match cycled {
-        Cycled::Retired(record) => Some(record),
-        Cycled::Stopped(retired) => retired,
-        Cycled::Pip(retired) => retired,
-        Cycled::Bubble => None,
-        Cycled::Ended => None,
-    }
 }
 
 /// Does one cycle, and writes the line of the record that retired if a trace is requested. Returns the number of
