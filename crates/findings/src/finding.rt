@@ -1,5 +1,5 @@
 //! Findings: what the file picks for a signal at a valuation, and whether that is right.
-ghost use Rattle.std.specs.Prelude.{◌≡◌, ◌≤◌, ◌++◌, ◌∷◌, [], ◌-◌, IfOk, OnOk, map, slice_get};
+ghost use Rattle.std.specs.Prelude.{◌≡◌, ◌≤◌, ◌-◌, IfOk, map, slice_get};
 ghost use Rattle.control_values.specs.Given.{assigned, at};
 ghost use Rattle.ctl_atoms.specs.Leaves.{leaf_holds};
 ghost use Rattle.ctl_rules.specs.ColumnDemands as words;
@@ -11,7 +11,7 @@ use control_values::{Scope, holds, taken_case};
 use ctl_atoms::{Leaf, same_leaf};
 use hcl_types::{NameId, Term};
 use std::alloc::Global;
-use y86_base::Memory;
+use y86_base::{Memory, push};
 
 /// What a requirement demands of a signal, what the file picks, and whether that is right.
 #[derive(Clone, Copy)]
@@ -79,15 +79,6 @@ fn finding_of(
     }
 }
 
-fn put(out: &mut Vec<Finding>, finding: Finding) -> Result<(), Memory>
-    ensures { OnOk result (out.new.items ≡ out.old.items ++ finding ∷ []) }
-{
-    match out.push(finding) {
-        Ok(()) => Ok(()),
-        Err(_) => Err(Memory),
-    }
-}
-
 /// The findings on requirements. The definitions are those of the rows from `defined` on.
 pub fn findings_of(
     alloc: Global,
@@ -101,7 +92,7 @@ pub fn findings_of(
 {
     let mut out = Vec::new(alloc);
     for requirement in all {
-        match put(&mut out, finding_of(scope, terms, defined, *requirement)) {
+        match push(&mut out, finding_of(scope, terms, defined, *requirement)) {
             Ok(()) => {}
             Err(e) => return Err(e),
         }

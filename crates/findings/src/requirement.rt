@@ -4,7 +4,7 @@ ghost use Rattle.findings.specs.Requirements as spec;
 
 use ctl_atoms::Leaf;
 use hcl_types::NameId;
-use y86_base::Memory;
+use y86_base::{Memory, push};
 
 /// The value that a signal has to have.
 #[derive(Clone, Copy, Debug, PartialEq, Eq)]
@@ -28,10 +28,7 @@ pub struct Requirement {
 pub fn put(out: &mut Vec<Requirement>, signal: NameId, wanted: Wanted) -> Result<(), Memory>
     ensures { OnOk result (out.new.items ≡ out.old.items ++ spec.requirement_of signal wanted ∷ []) }
 {
-    match out.push(Requirement { signal, wanted }) {
-        Ok(()) => Ok(()),
-        Err(_) => Err(Memory),
-    }
+    push(out, Requirement { signal, wanted })
 }
 
 /// Appends the requirement that the signal picks a leaf.
