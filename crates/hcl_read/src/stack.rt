@@ -5,7 +5,7 @@ ghost use Rattle.hcl_read.specs.Depth.{depth_of};
 use crate::frames::Frame;
 use std::alloc::Global;
 use std::marker::Model;
-use y86_base::Memory;
+use y86_base::{Memory, push};
 
 /// How many of `(`, `[`, `{` and `!` may be open around a token.
 pub const DEEPEST: u64 = 64;
@@ -44,10 +44,7 @@ impl Stack {
     pub fn push(&mut self, frame: Frame) -> Result<(), Memory>
         ensures { OnOk result (self.new ≡ frame ∷ self.old) }
     {
-        match self.frames.push(frame) {
-            Ok(()) => Ok(()),
-            Err(_) => Err(Memory),
-        }
+        push(&mut self.frames, frame)
     }
 
     /// Closes the innermost bracket.

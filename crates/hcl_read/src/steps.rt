@@ -15,17 +15,15 @@ use crate::state::BodyMove;
 use crate::tokens::Token;
 use hcl_tree::{Branch, Expr};
 use std::alloc::Global;
-use y86_base::{Boxed, Items, Memory};
+use y86_base::{Boxed, Items, Memory, push};
 
 /// A list with one more element at its end.
 pub fn with_last<T: Drop>(items: Items<T>, last: T) -> Result<Items<T>, Memory>
     ensures { IfOk result (λ all. all ≡ items ++ last ∷ []) }
 {
     let mut vec = items.into_vec();
-    match vec.push(last) {
-        Ok(()) => Ok(Items::of(vec)),
-        Err(_) => Err(Memory),
-    }
+    push(&mut vec, last)?;
+    Ok(Items::of(vec))
 }
 
 /// The reason for a token that cannot occur where it is.
