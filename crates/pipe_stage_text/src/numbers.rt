@@ -2,7 +2,7 @@
 ghost use Rattle.std.specs.Prelude.{◌≡◌, ◌++◌, [], OnOk, slice_index_or};
 ghost use Rattle.pipe_stage_text.specs.Numbers as text;
 
-use y86_base::{Memory, Numeral, Regs, Stat, put};
+use y86_base::{Memory, Numeral, Regs, Stat, put, put_decimal};
 
 const NO_REGISTER: u64 = 15;
 
@@ -28,7 +28,7 @@ pub(crate) fn put_register(out: &mut Vec<u8>, n: u64) -> Result<(), Memory>
     } else if n == NO_REGISTER {
         put(out, b"-")
     } else {
-        put(out, Numeral::decimal(n).as_bytes())
+        put_decimal(out, n)
     }
 }
 
@@ -66,7 +66,7 @@ pub fn put_number_pair(out: &mut Vec<u8>, key: &[u8], n: u64) -> Result<(), Memo
     ensures { OnOk result (out.new.items ≡ out.old.items ++ text.number_pair key.now n) }
 {
     put(out, key)?;
-    put(out, Numeral::decimal(n).as_bytes())
+    put_decimal(out, n)
 }
 
 /// The name of a function of the ALU; no bytes for another number.
@@ -91,7 +91,7 @@ fn put_function(out: &mut Vec<u8>, n: u64) -> Result<(), Memory>
     if n < ALU_FUNCTIONS {
         put(out, function_name(n))
     } else {
-        put(out, Numeral::decimal(n).as_bytes())
+        put_decimal(out, n)
     }
 }
 

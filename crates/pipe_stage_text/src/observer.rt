@@ -16,16 +16,16 @@ use crate::diagram::{DiagramCycle, put_diagram, shown_cycle};
 use crate::listed::{Listing, listing_for};
 use crate::picked::sources_of;
 use crate::processor::ProcessorDesign;
-use crate::stage_contents::{StageContents, fetched, first_watch, moved_watch, requested_updates};
+use crate::stage_contents::{StageContents, fetched, first_watch, moved_watch};
 use dp_machines::{is_aok_stat, record_count};
 use dp_signals::{
-    CycleEnd, PipeState, PipeValues, advance, constant_words, end_of_cycle, ending, given, retires,
-    solve_pipe_in,
+    CycleEnd, PipeState, PipeValues, advance, constant_words, end_of_cycle, ending, given,
+    requested_updates, retires, solve_pipe_in,
 };
 use hcl_types::SignalEval;
 use std::alloc::Global;
 use std::marker::Model;
-use y86_base::{Image, Memory, Stat};
+use y86_base::{Image, Memory, Stat, push};
 use y86_isa::Rec;
 
 /// Which cycles of a run are shown, and whether as a diagram.
@@ -135,10 +135,7 @@ fn put_shown(
         &movers,
         goes_on(ending(cycle.values)),
     );
-    match cycles.push(one) {
-        Ok(()) => Ok(()),
-        Err(_) => Err(Memory),
-    }
+    push(cycles, one)
 }
 
 /// Does the cycle with this number and these values, and keeps what is shown of it.

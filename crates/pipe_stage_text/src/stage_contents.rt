@@ -1,7 +1,6 @@
 //! What the stages hold, by rows of the diagram: when a pipeline register moves, its contents move.
 ghost use Rattle.std.specs.Prelude.{◌≡◌, ◌≤◌, ◌<◌, ◌+◌, ◌^◌};
 ghost use Rattle.dp_signals.specs.PipeCycle as pipe;
-ghost use Rattle.y86_base.specs.Words.{set};
 ghost use Rattle.hcl_types.specs.Terms.{at};
 ghost use Rattle.pipe_stage_text.specs.StageContents as spec;
 
@@ -33,31 +32,6 @@ pub(crate) fn first_watch() -> StageContents
         m: none,
         w: none,
         rows: 0,
-    }
-}
-
-fn update_by(stall: u64, bubble: u64) -> RegisterUpdate
-    ensures { result ≡ pipe.update_by (set stall) (set bubble) }
-{
-    if stall != 0 {
-        RegisterUpdate::Stay
-    } else if bubble != 0 {
-        RegisterUpdate::Bubble
-    } else {
-        RegisterUpdate::Load
-    }
-}
-
-/// The updates of the pipeline registers that the file requests.
-pub(crate) fn requested_updates(values: &PipeValues) -> RegisterUpdates
-    ensures { result ≡ pipe.requested_updates (at values.now) }
-{
-    RegisterUpdates {
-        f: update_by(at(values, row::F_STALL), at(values, row::F_BUBBLE)),
-        d: update_by(at(values, row::D_STALL), at(values, row::D_BUBBLE)),
-        e: update_by(at(values, row::E_STALL), at(values, row::E_BUBBLE)),
-        m: update_by(at(values, row::M_STALL), at(values, row::M_BUBBLE)),
-        w: update_by(at(values, row::W_STALL), at(values, row::W_BUBBLE)),
     }
 }
 
