@@ -1,5 +1,5 @@
 //! The control values of all names at a valuation, along an order.
-ghost use Rattle.std.specs.Prelude.{◌≡◌, ◌≤◌, ◌<◌, ◌^◌, ◌++◌, ◌∷◌, [], ℕ, IfOk, OnOk, false, get_or, length, slice_get, slice_set};
+ghost use Rattle.std.specs.Prelude.{◌≡◌, ◌≤◌, ◌<◌, ◌^◌, ℕ, IfOk, false, get_or, length, slice_get, slice_set};
 ghost use Rattle.std.specs.List.{AllByRecursion};
 ghost use Rattle.net_fields.specs.Spelling.{bit, spelt};
 ghost use Rattle.hcl_types.specs.Tables.{IsOrderOf, IsSound};
@@ -16,7 +16,7 @@ use ctl_atoms::{Atom, Leaf, definitions_before};
 use hcl_types::{Class, NameId, OrderedDesign, Role, Row, Table, Term};
 use net_fields::{FieldSpec, place_in};
 use std::alloc::Global;
-use y86_base::Memory;
+use y86_base::{Memory, push};
 
 /// A valuation: its bits, the table of its fields, and the atoms, whose truths are the bits from `first` on.
 #[derive(Clone, Copy)]
@@ -123,16 +123,6 @@ fn leaf_of_row(s: &Situation<'_>, rows: &[Row], terms: &[Term], id: NameId, leav
     }
 }
 
-/// Adds a leaf after the others.
-fn push_leaf(leaves: &mut Vec<Leaf>, leaf: Leaf) -> Result<(), Memory>
-    ensures { OnOk result (leaves.new.items ≡ leaves.old.items ++ leaf ∷ []) }
-{
-    match leaves.push(leaf) {
-        Ok(()) => Ok(()),
-        Err(_) => Err(Memory),
-    }
-}
-
 /// The leaf of a row that isn't defined, and 0 for any other.
 fn given_at(s: &Situation<'_>, rows: &[Row], id: usize) -> Leaf
     requires few { length rows.now < 2 ^ 32 }
@@ -155,7 +145,7 @@ fn given_leaves(alloc: Global, s: &Situation<'_>, rows: &[Row]) -> Result<Vec<Le
     let mut leaves = Vec::new(alloc);
     for id in 0..rows.len() {
         let leaf = given_at(s, rows, id);
-        match push_leaf(&mut leaves, leaf) {
+        match push(&mut leaves, leaf) {
             Ok(()) => {}
             Err(_) => return Err(Memory),
         }

@@ -22,7 +22,7 @@ use pipe_motion::{FlowGates, Settings};
 use pipe_motion_gates::{is_always_demanded, premise_gate};
 use pipe_obligations::RULE_COUNT;
 use std::alloc::Global;
-use y86_base::{Memory, Variant};
+use y86_base::{Memory, Variant, push};
 
 /// The flow of the stages, and the valuations at which obligations are demanded: in any cycle, and in one that
 /// doesn't stop.
@@ -88,10 +88,7 @@ pub(crate) fn rules_told(
         let demand = demand_gate(b, ctl, v, s, &p.flow, number)?;
         let premise = one_of(is_always_demanded(number as u64), p.always, p.going);
         let gate = implies(b, premise, demand)?;
-        match list.push(Rule { number, gate }) {
-            Ok(()) => {}
-            Err(_) => return Err(Memory),
-        }
+        push(&mut list, Rule { number, gate })?;
     }
     Ok(list)
 }

@@ -19,7 +19,7 @@ use ctl_rules::Rule;
 use hcl_types::Table;
 use nets::NetBuilder;
 use std::alloc::Global;
-use y86_base::Memory;
+use y86_base::{Memory, push};
 
 /// The number of rules of a sequential datapath.
 pub const RULE_COUNT: u32 = 16;
@@ -120,10 +120,7 @@ pub(crate) fn numbered_rules<N: RuleFamily>(
     for i in 0..RULE_COUNT {
         let number = i + 1;
         let gate = rule_told(b, ctl, rules, fits, number)?;
-        match list.push(Rule { number, gate }) {
-            Ok(()) => {}
-            Err(_) => return Err(Memory),
-        }
+        push(&mut list, Rule { number, gate })?;
     }
     Ok(list)
 }

@@ -19,6 +19,6 @@ loop-i-preserved g c =
     record {
       begins = begins_more c.loop-i.invariant.begins grown;
       fits = asked_more grown i c.loop-i.invariant.fits;
-      count = counted _ _ _ _ c.in-Ok.ensures.items c.loop-i.invariant.count;
-      rules = rules_pushed f _ _ _ _ c.in-Ok.ensures.items c.loop-i.invariant.count (rules_more f _ grown i c.loop-i.invariant.rules) (record { number = refl; asked = c.in_ok-gate.ensures.has_truth });
+      count = counted _ _ _ _ c.in_ok-push.ensures c.loop-i.invariant.count;
+      rules = rules_pushed f _ _ _ _ c.in_ok-push.ensures c.loop-i.invariant.count (rules_more f _ grown i c.loop-i.invariant.rules) (record { number = refl; asked = c.in_ok-gate.ensures.has_truth });
     }
