@@ -1,5 +1,5 @@
 //! Which changes of stall and bubble signals meet all obligations on motion.
-ghost use Rattle.std.specs.Prelude.{◌≡◌, ◌≤◌, ◌++◌, ◌∷◌, ◌==◌, [], IfOk, OnOk, filter, if◌then◌else◌};
+ghost use Rattle.std.specs.Prelude.{◌≡◌, ◌≤◌, ◌==◌, IfOk, filter, if◌then◌else◌};
 ghost use Rattle.control_values.specs.Given.{at};
 ghost use Rattle.pipe_requirements.specs.Requirements.{unread};
 ghost use Rattle.pipe_requirements.specs.Flows.{fields_in, as_register_control, as_register_controls, as_flow};
@@ -13,7 +13,7 @@ use dp_signals::pipe_row as name;
 use hcl_types::NameId;
 use pipe_requirements::{Now, RegisterControlNow, RegisterControlsNow, is_number, leaf_at, leaves};
 use std::alloc::Global;
-use y86_base::Memory;
+use y86_base::{Memory, push};
 use y86_isa::{row, select_a_is_val_p, stores_val_a};
 
 /// A signal's truth, inverted if it has this name.
@@ -144,15 +144,6 @@ pub(crate) fn stall_bubble_signals() -> &'static [NameId]
     &SIGNALS
 }
 
-fn put(out: &mut Vec<NameId>, signal: NameId) -> Result<(), Memory>
-    ensures { OnOk result (out.new.items ≡ out.old.items ++ signal ∷ []) }
-{
-    match out.push(signal) {
-        Ok(()) => Ok(()),
-        Err(_) => Err(Memory),
-    }
-}
-
 /// The signals that each, inverted alone, meet all obligations on motion.
 #[tactic(auto, unfolding(crate::specs::Changes::signal_repairs))]
 pub fn signal_repairs(alloc: Global, n: &Now<'_>) -> Result<Vec<NameId>, Memory>
@@ -161,7 +152,7 @@ pub fn signal_repairs(alloc: Global, n: &Now<'_>) -> Result<Vec<NameId>, Memory>
     let mut out = Vec::new(alloc);
     for signal in stall_bubble_signals() {
         if is_repaired(n, *signal) {
-            match put(&mut out, *signal) {
+            match push(&mut out, *signal) {
                 Ok(()) => {}
                 Err(e) => return Err(e),
             }
@@ -230,7 +221,7 @@ pub fn pc_repairs(alloc: Global, n: &Now<'_>) -> Result<Vec<NameId>, Memory>
             Err(e) => return Err(e),
         };
         if met {
-            match put(&mut out, *source) {
+            match push(&mut out, *source) {
                 Ok(()) => {}
                 Err(e) => return Err(e),
             }

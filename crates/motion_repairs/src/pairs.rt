@@ -1,5 +1,5 @@
 //! Two changes made together, and all changes that repair the motion.
-ghost use Rattle.std.specs.Prelude.{◌≡◌, ◌++◌, ◌∷◌, [], IfOk, OnOk, filter, if◌then◌else◌};
+ghost use Rattle.std.specs.Prelude.{◌≡◌, ◌++◌, IfOk, OnOk, filter, if◌then◌else◌};
 ghost use Rattle.control_values.specs.Given.{at};
 ghost use Rattle.pipe_requirements.specs.Requirements.{unread};
 ghost use Rattle.pipe_requirements.specs.Flows.{fields_in, as_register_controls, as_flow};
@@ -12,7 +12,7 @@ use crate::changes::{
 use hcl_types::NameId;
 use pipe_requirements::Now;
 use std::alloc::Global;
-use y86_base::{Items, Memory};
+use y86_base::{Items, Memory, push};
 
 /// Two changes made together: an inverted signal, and another one or a name that `f_pc` picks.
 #[derive(Clone, Copy, Debug, PartialEq, Eq)]
@@ -34,15 +34,6 @@ pub struct Repairs {
     pub invert_and_f_pc: Items<Pair>,
 }
 
-fn put(out: &mut Vec<Pair>, pair: Pair) -> Result<(), Memory>
-    ensures { OnOk result (out.new.items ≡ out.old.items ++ pair ∷ []) }
-{
-    match out.push(pair) {
-        Ok(()) => Ok(()),
-        Err(_) => Err(Memory),
-    }
-}
-
 /// Adds a name with each of some others.
 fn put_pairs(out: &mut Vec<Pair>, first: NameId, seconds: &[NameId]) -> Result<(), Memory>
     ensures { OnOk result (out.new.items ≡ out.old.items ++ spec.pairs_with first seconds.now) }
@@ -52,7 +43,7 @@ fn put_pairs(out: &mut Vec<Pair>, first: NameId, seconds: &[NameId]) -> Result<(
             first,
             second: *second,
         };
-        match put(out, pair) {
+        match push(out, pair) {
             Ok(()) => {}
             Err(e) => return Err(e),
         }
@@ -134,7 +125,7 @@ fn both_repairs(alloc: Global, n: &Now<'_>) -> Result<Vec<Pair>, Memory>
     let mut out = Vec::new(alloc);
     for pair in pairs.as_slice() {
         if is_met_by_both(n, *pair) {
-            match put(&mut out, *pair) {
+            match push(&mut out, *pair) {
                 Ok(()) => {}
                 Err(e) => return Err(e),
             }
@@ -156,7 +147,7 @@ fn repairs_with_pc(alloc: Global, n: &Now<'_>) -> Result<Vec<Pair>, Memory>
             Err(e) => return Err(e),
         };
         if met {
-            match put(&mut out, *pair) {
+            match push(&mut out, *pair) {
                 Ok(()) => {}
                 Err(e) => return Err(e),
             }
