@@ -12,6 +12,7 @@ pub use accepted::{Accepted, accept_pipe};
 pub use ctl_verdicts::{CheckFault, FailedRule, check_fault, decide};
 pub use laws::law_of_settings;
 pub use pipe_verdict::{
-    FileRules, check_pipe, decide_pipe, file_rules, file_settings, rules_at_settings, rules_true,
+    FileRules, check_pipe, decide_pipe, file_rules, file_settings, rules_at_settings, rules_from,
+    rules_true,
 };
 pub use verdict::{Verdict, check_seq};

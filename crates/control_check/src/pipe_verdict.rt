@@ -21,7 +21,7 @@ use hcl_types::OrderedDesign;
 use nets::Net;
 use pipe_motion::Settings;
 use std::alloc::Global;
-use y86_base::{Memory, Variant};
+use y86_base::{Memory, Variant, push};
 
 /// The number of jumps that are predicted, one for each ifun.
 const JUMPS: usize = 7;
@@ -226,16 +226,6 @@ pub fn rules_at_settings(
     }
 }
 
-/// Appends a truth.
-fn put_truth(truths: &mut Vec<bool>, truth: bool) -> Result<(), Memory>
-    ensures { OnOk result (truths.new.items ≡ truths.old.items ++ truth ∷ []) }
-{
-    match truths.push(truth) {
-        Ok(()) => Ok(()),
-        Err(_) => Err(Memory),
-    }
-}
-
 /// Appends `true` until there are `until` truths.
 #[tactic(auto, using(crate::proofs::Tails::filled_none, crate::proofs::Tails::filled_more))]
 fn fill(truths: &mut Vec<bool>, until: usize) -> Result<(), Memory>
@@ -244,7 +234,7 @@ fn fill(truths: &mut Vec<bool>, until: usize) -> Result<(), Memory>
 {
     let from = truths.len();
     for _k in from..until {
-        match put_truth(truths, true) {
+        match push(truths, true) {
             Ok(()) => {}
             Err(e) => return Err(e),
         }
@@ -260,7 +250,7 @@ fn how_many(truths: &Vec<bool>) -> usize
 }
 
 /// The rules from an index on.
-fn behind(list: &[Rule], from: usize) -> &[Rule]
+pub fn rules_from(list: &[Rule], from: usize) -> &[Rule]
     requires { from ≤ length list.now }
     ensures { result.now ≡ drop from list.now }
 {
@@ -278,14 +268,14 @@ fn tell_next(alloc: Global, net: &Net, list: &[Rule], truths: &mut Vec<bool>) ->
     ensures more { OnOk result (length truths.old.items < length truths.new.items) }
 {
     let from = how_many(truths);
-    match decide_pipe(alloc, net, behind(list, from))? {
+    match decide_pipe(alloc, net, rules_from(list, from))? {
         None => {
             fill(truths, list.len())?;
             Ok(())
         }
         Some(failure) => {
             fill(truths, (failure.rule as usize).saturating_sub(1))?;
-            put_truth(truths, false)?;
+            push(truths, false)?;
             Ok(())
         }
     }

@@ -32,9 +32,6 @@ use Rattle.pipe_diagnosis.specs.Diagnosis.{Fails}
 use Rattle.pipe_refusals.specs.Answered.{AreRefuted, IsLeast, IsRefutation, is_refuted}
 use Rattle.pipe_diagnosis.specs.declared.refusal.Refutation.{Refutation}
 
-pub gates_from : (net : Gates) (list : List Rule) (n : ℕ) → HaveGatesOfNet net list → HaveGatesOfNet net (drop n list)
-gates_from net list n h k r at = h (n + k) r (sym (from_drop list n k) ∙ at)
-
 module _ (v : Variant) (terms : List Term) (s : Settings) (net : Gates) (list : List Rule) (rules : AreRules v terms s net list) where
   pub gates_of : HaveGatesOfNet net list
   gates_of = λ k r at. (rules.gates k r at).within

@@ -1,5 +1,5 @@
 //! The verdict, and the diagnosis of a refusal.
-ghost use Rattle.std.specs.Prelude.{◌≡◌, ◌≤◌, ◌<◌, ◌∷◌, ◌++◌, [], ℕ, IfErr, IfOk, OnOk, Some, drop, length, true};
+ghost use Rattle.std.specs.Prelude.{◌≡◌, ◌≤◌, ◌<◌, ◌∷◌, [], ℕ, IfErr, IfOk, Some, drop, length, true};
 ghost use Rattle.dp_signals.specs.PipeTable.{pipe_rows};
 ghost use Rattle.hcl_types.specs.Tables.{IsBound, IsOrderOf};
 ghost use Rattle.ctl_atoms.specs.Atoms.{AreAtoms};
@@ -9,27 +9,19 @@ ghost use Rattle.pipe_obligations.specs.Rules.{rule_count};
 ghost use Rattle.ctl_verdicts.specs.Decisions.{IsRuleDecision};
 ghost use Rattle.pipe_refusals.specs.Answered as spec;
 
-use control_check::{CheckFault, FailedRule, decide_pipe, rules_at_settings};
-use ctl_rules::{Rule, Rules};
+use control_check::{CheckFault, FailedRule, decide_pipe, rules_at_settings, rules_from};
+use ctl_rules::Rules;
 use hcl_types::OrderedDesign;
 use pipe_diagnosis::{PipeFile, Refusal, Refutation, diagnose};
 use pipe_motion::Settings;
 use std::alloc::Global;
-use y86_base::{Items, Memory, Variant};
+use y86_base::{Items, Memory, Variant, push};
 
 /// The answer on a file.
 #[derive(Drop)]
 pub enum PipeAnswer {
     Yes(Settings),
     No(Refusal),
-}
-
-/// The rules from an index on.
-fn rules_from(list: &[Rule], from: usize) -> &[Rule]
-    requires { from ≤ length list.now }
-    ensures { result.now ≡ drop from list.now }
-{
-    &list[from..]
 }
 
 /// Refutes the first obligation after the first `from` ones that is false somewhere.
@@ -62,19 +54,9 @@ fn refute(
     })
 }
 
-/// Appends a refutation.
-fn put(out: &mut Vec<Refutation>, refutation: Refutation) -> Result<(), Memory>
-    ensures { OnOk result (out.new.items ≡ out.old.items ++ refutation ∷ []) }
-{
-    match out.push(refutation) {
-        Ok(()) => Ok(()),
-        Err(_) => Err(Memory),
-    }
-}
-
 /// Refutes the next obligation that is false somewhere, and returns the number up to which all obligations are then
 /// decided.
-#[tactic(auto, using(crate::proofs::Refuting::gates_from))]
+#[tactic(auto, using(control_check::proofs::Tails::gates_from))]
 fn refute_next(
     alloc: Global,
     file: &PipeFile<'_>,
@@ -98,7 +80,7 @@ fn refute_next(
         Some(failure) => {
             let until = failure.rule as usize;
             let refutation = refute(alloc, file, rules, from, failure)?;
-            put(others, refutation)?;
+            push(others, refutation)?;
             Ok(until)
         }
     }

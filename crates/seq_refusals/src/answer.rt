@@ -1,5 +1,5 @@
 //! The verdict, and the diagnosis of a refusal.
-ghost use Rattle.std.specs.Prelude.{◌≡◌, ◌≤◌, ◌<◌, ◌+◌, ◌∷◌, ◌++◌, [], IfErr, IfOk, OnOk, Some, length, slice_get, true};
+ghost use Rattle.std.specs.Prelude.{◌≡◌, ◌≤◌, ◌<◌, ◌+◌, ◌∷◌, [], IfErr, IfOk, OnOk, Some, length, slice_get, true};
 ghost use Rattle.hcl_types.specs.Tables.{IsBound, IsOrderOf};
 ghost use Rattle.ctl_atoms.specs.Atoms.{AreAtoms, IsCtlFault};
 ghost use Rattle.seq_requirements.specs.Datapaths.{rows_of};
@@ -18,7 +18,7 @@ use seq_obligations::seq_rules;
 use seq_plus_check::plus_rules;
 use seq_requirements::Datapath;
 use std::alloc::Global;
-use y86_base::{Items, Memory, Variant};
+use y86_base::{Items, Memory, Variant, push};
 
 /// The answer on a file.
 #[derive(Drop)]
@@ -91,16 +91,6 @@ fn refute(
     })
 }
 
-/// Appends a refutation.
-fn put(out: &mut Vec<Refutation>, refutation: Refutation) -> Result<(), Memory>
-    ensures { OnOk result (out.new.items ≡ out.old.items ++ refutation ∷ []) }
-{
-    match out.push(refutation) {
-        Ok(()) => Ok(()),
-        Err(_) => Err(Memory),
-    }
-}
-
 /// Refutes the obligation of the rule at a place, if it is false somewhere.
 fn refute_at(
     alloc: Global,
@@ -122,7 +112,7 @@ fn refute_at(
         None => Ok(()),
         Some(failure) => {
             let refutation = refute(alloc, file, rules, failure)?;
-            put(others, refutation)?;
+            push(others, refutation)?;
             Ok(())
         }
     }
