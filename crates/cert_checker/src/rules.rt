@@ -10,7 +10,7 @@ use crate::line::CertLine;
 use nets::{Gate, Net};
 use std::alloc::Global;
 use std::marker::Model;
-use y86_base::Memory;
+use y86_base::{Memory, push};
 
 /// The definition of a term. Terms 0 and 1 have none.
 pub fn made_at(terms: &[TermDef], t: u64) -> Option<TermDef>
@@ -361,30 +361,21 @@ impl CheckerState {
         if self.terms.len() >= MOST {
             return Err(Memory);
         }
-        match self.terms.push(TermDef { var, low, high }) {
-            Ok(()) => Ok(()),
-            Err(_) => Err(Memory),
-        }
+        push(&mut self.terms, TermDef { var, low, high })
     }
 
     /// Appends a claim.
     fn add_claim(&mut self, claim: Claim) -> Result<(), Memory>
         ensures { OnOk result (self.new ≡ with_claim self.old claim) }
     {
-        match self.claims.push(claim) {
-            Ok(()) => Ok(()),
-            Err(_) => Err(Memory),
-        }
+        push(&mut self.claims, claim)
     }
 
     /// Appends the term of a gate.
     fn add_gate(&mut self, term: u32) -> Result<(), Memory>
         ensures { OnOk result (self.new ≡ with_gate self.old term) }
     {
-        match self.gates.push(term) {
-            Ok(()) => Ok(()),
-            Err(_) => Err(Memory),
-        }
+        push(&mut self.gates, term)
     }
 
     /// Adds what a correct line makes: a term, a claim or the term of a gate.

@@ -1,5 +1,5 @@
 //! What a certificate of a file for PIPE has to show at given settings.
-ghost use Rattle.std.specs.Prelude.{◌≡◌, ◌++◌, ◌∷◌, [], cond, map, IfErr, IfOk, OnOk};
+ghost use Rattle.std.specs.Prelude.{◌≡◌, ◌++◌, ◌∷◌, [], cond, map, IfErr, IfOk};
 ghost use Rattle.ctl_atoms.specs.Atoms.{IsCtlFault};
 ghost use Rattle.dp_signals.specs.PipeTable.{pipe_rows};
 ghost use Rattle.hcl_types.specs.Tables.{IsBound, IsOrderOf};
@@ -13,17 +13,7 @@ use hazard_rules::{pipe_parts, pipe_rules};
 use hcl_types::OrderedDesign;
 use pipe_motion::Settings;
 use std::alloc::Global;
-use y86_base::{Items, Memory, Variant};
-
-/// Appends a gate.
-fn push_gate(gates: &mut Vec<u64>, gate: u64) -> Result<(), Memory>
-    ensures { OnOk result (gates.new.items ≡ gates.old.items ++ gate ∷ []) }
-{
-    match gates.push(gate) {
-        Ok(()) => Ok(()),
-        Err(_) => Err(Memory),
-    }
-}
+use y86_base::{Items, Memory, Variant, push};
 
 /// The gates of rules.
 #[tactic(auto, using(crate::proofs::Wanted::gates_none, crate::proofs::Wanted::gates_more, crate::proofs::Wanted::gates_all))]
@@ -32,7 +22,7 @@ fn gates_of(alloc: Global, list: &[Rule]) -> Result<Vec<u64>, Memory>
 {
     let mut gates: Vec<u64> = Vec::new(alloc);
     for k in 0..list.len() {
-        push_gate(&mut gates, list[k].gate)?;
+        push(&mut gates, list[k].gate)?;
     }
     Ok(gates)
 }
@@ -44,7 +34,7 @@ fn wanted(alloc: Global, list: &[Rule], target: bool, tv: u64) -> Result<Vec<u64
 {
     let mut want = gates_of(alloc, list)?;
     if target {
-        push_gate(&mut want, tv)?;
+        push(&mut want, tv)?;
     }
     Ok(want)
 }

@@ -7,12 +7,11 @@ ghost use Rattle.cert_writer.specs.Writing.{AreClaims, AreGateTerms, MatchesBy};
 ghost use Rattle.nets.specs.declared.net.Gate.{Gate};
 ghost use Rattle.cert_checker.specs.Rules as spec;
 
-use crate::terms::push_number;
 use cert_checker::{CertLine, TermDef, is_plain_and, is_plain_not, made_at, part};
 use nets::{Gate, Net};
 use std::alloc::Global;
 use std::marker::Model;
-use y86_base::Memory;
+use y86_base::{Memory, push};
 
 /// Claims about terms that all precede the claims, over ranks of the variables.
 #[derive(Drop)]
@@ -224,10 +223,8 @@ impl<'a> ClaimWriter<'a> {
         if p >= self.most || p >= MOST {
             return Err(Memory);
         }
-        match self.steps.push(line) {
-            Ok(()) => Ok(p as u32),
-            Err(_) => Err(Memory),
-        }
+        push(&mut self.steps, line)?;
+        Ok(p as u32)
     }
 
     /// The claim that a term is the conjunction of two others, from the claims about their parts.
@@ -336,7 +333,7 @@ impl<'a> ClaimWriter<'a> {
         let mut by: Vec<u32> = Vec::new(alloc);
         for i in 0..n.len() {
             let p = self.gate_claim(n, ts, i)?;
-            push_number(&mut by, p)?;
+            push(&mut by, p)?;
         }
         Ok(by)
     }

@@ -1,12 +1,12 @@
 //! The diagrams of the gates of a net.
-ghost use Rattle.std.specs.Prelude.{◌≡◌, ◌++◌, ◌∷◌, [], length, map, IfOk, OnOk};
+ghost use Rattle.std.specs.Prelude.{◌≡◌, length, map, IfOk};
 ghost use Rattle.nets.specs.declared.copies.Replacement.TheVariants as source;
 ghost use Rattle.cert_writer.specs.Nodes.{IsDrawn, IsVariableOrder};
 
 use bdd_core::{Dia, GateDiagrams, Store};
 use nets::{Net, Replacement, substitute};
 use std::alloc::Global;
-use y86_base::Memory;
+use y86_base::{Memory, push};
 
 /// The diagrams of the gates of a net, and the store in which they are.
 #[derive(Drop)]
@@ -27,16 +27,6 @@ fn sources(alloc: Global, ranks: &[u32]) -> Result<Vec<Replacement>, Memory>
         }
     }
     Ok(to)
-}
-
-/// Appends a diagram.
-fn push_dia(dias: &mut Vec<Dia>, d: Dia) -> Result<(), Memory>
-    ensures { OnOk result (dias.new.items ≡ dias.old.items ++ d ∷ []) }
-{
-    match dias.push(d) {
-        Ok(()) => Ok(()),
-        Err(_) => Err(Memory),
-    }
 }
 
 /// The diagrams of the gates of a net, with variable `order[x]` of the net as variable x.
@@ -65,7 +55,7 @@ pub fn draw(
     for i in 0..n.len() {
         let gate = copy.gates.items()[i as usize];
         let d = store.build_on(&copy.net, &mut built, gate)?;
-        push_dia(&mut dias, d)?;
+        push(&mut dias, d)?;
     }
     Ok(DrawnNet { store, dias })
 }

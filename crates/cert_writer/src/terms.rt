@@ -1,5 +1,5 @@
 //! A term for each node of some diagrams.
-ghost use Rattle.std.specs.Prelude.{◌≡◌, true, cond, OnOk, ◌^◌, ◌+◌, ◌<◌, ◌++◌, ◌∷◌, [], ℕ, length, IfOk, IfSome, get_or};
+ghost use Rattle.std.specs.Prelude.{◌≡◌, true, cond, ◌^◌, ◌+◌, ◌<◌, ◌++◌, ◌∷◌, [], ℕ, length, IfOk, IfSome, get_or};
 ghost use Rattle.bdd_core.specs.Meaning.{Depends, IsDia, IsNode};
 ghost use Rattle.cert_writer.specs.Nodes.{ExtendsTerms, IsDrawn, IsVariableOrder, IsTermOf, IsTermTable};
 ghost use Rattle.cert_checker.specs.Rules as spec;
@@ -11,7 +11,7 @@ use cert_checker::{TermDef, is_made, made_at};
 use nets::{Gate, Net};
 use std::alloc::Global;
 use std::marker::Model;
-use y86_base::Memory;
+use y86_base::{Memory, push};
 
 /// The terms of some diagrams, over the variables of a net: variable `order[x]` of the net is variable x of the
 /// diagrams.
@@ -42,16 +42,6 @@ fn constant(value: bool) -> u32
     ensures { result ≡ cond value 1 0 }
 {
     if value { 1 } else { 0 }
-}
-
-/// Appends a number.
-pub(crate) fn push_number(numbers: &mut Vec<u32>, n: u32) -> Result<(), Memory>
-    ensures { OnOk result (numbers.new.items ≡ numbers.old.items ++ n ∷ []) }
-{
-    match numbers.push(n) {
-        Ok(()) => Ok(()),
-        Err(_) => Err(Memory),
-    }
 }
 
 /// The number of places in the cache of terms.
@@ -169,10 +159,8 @@ impl<'a> TermWriter<'a> {
         if t >= MOST {
             return Err(Memory);
         }
-        match self.terms.push(made) {
-            Ok(()) => Ok(t as u32 + 2),
-            Err(_) => Err(Memory),
-        }
+        push(&mut self.terms, made)?;
+        Ok(t as u32 + 2)
     }
 
     /// The term of a diagram that depends on no variable before `least`.
@@ -273,7 +261,7 @@ impl<'a> TermWriter<'a> {
         let mut terms: Vec<u32> = Vec::new(alloc);
         for i in 0..n.len() {
             let t = self.gate_term(n, dias, i)?;
-            push_number(&mut terms, t)?;
+            push(&mut terms, t)?;
         }
         Ok(terms)
     }

@@ -8,7 +8,7 @@ ghost use Rattle.cert_writer.specs.Writing.{AreGates, AreNamed, IsCertificatePre
 use crate::claims::ClaimWriter;
 use cert_checker::{CertLine, Demands, TermDef};
 use nets::Gate;
-use y86_base::{Memory, Numeral, put};
+use y86_base::{Memory, put, put_decimal};
 
 /// Puts a blank and a number.
 #[tactic(auto, using(crate::proofs::Texts::number_put))]
@@ -16,7 +16,7 @@ fn put_number(out: &mut Vec<u8>, n: u64) -> Result<(), Memory>
     ensures { OnOk result (out.new.items ≡ out.old.items ++ 32 ∷ decimal n) }
 {
     put(out, b" ")?;
-    put(out, Numeral::decimal(n).as_bytes())
+    put_decimal(out, n)
 }
 
 /// Puts a line of a letter and some numbers.

@@ -6,7 +6,7 @@ ghost use Rattle.verdict_text.specs.Fields.{labelled, labelled_line};
 ghost use Rattle.verdict_text.specs.Views.{are_few, shown};
 
 use net_fields::BitRange;
-use y86_base::{Memory, Numeral, put};
+use y86_base::{Memory, put, put_decimal};
 
 /// A bit of a valuation as a number.
 fn bit_at(bits: &[bool], i: usize) -> u64
@@ -56,7 +56,7 @@ fn put_field(out: &mut Vec<u8>, bits: &[bool], it: ShownField) -> Result<(), Mem
     put(out, b" ")?;
     put(out, it.label.as_bytes())?;
     put(out, b"=")?;
-    put(out, Numeral::decimal(it.number(bits)).as_bytes())
+    put_decimal(out, it.number(bits))
 }
 
 /// Puts labels, each with its number.

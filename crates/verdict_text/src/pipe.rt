@@ -19,7 +19,7 @@ use pipe_fields::{
 };
 use pipe_motion::Settings;
 use std::alloc::Global;
-use y86_base::{Memory, Numeral, put};
+use y86_base::{Memory, put, put_decimal};
 
 /// The word for what a stage holds.
 fn word_of(kind: u64) -> &'static [u8]
@@ -101,7 +101,7 @@ pub fn pipe_refusal(
     let mut out = Vec::new(alloc);
     let bits = valuation.bits.items();
     put(&mut out, b"no O")?;
-    put(&mut out, Numeral::decimal(rule as u64).as_bytes())?;
+    put_decimal(&mut out, rule as u64)?;
     put(&mut out, b"\n")?;
     put_lines(&mut out, bits)?;
     put_atoms(&mut out, rows, bits, BIT_COUNT as usize, atoms)?;

@@ -13,7 +13,7 @@ use net_fields::BitRange;
 use nets::Valuation;
 use seq_obligations::{BIT_COUNT, LINE, P_CND, P_ICODE, PLUS_BIT_COUNT, PLUS_LINE};
 use std::alloc::Global;
-use y86_base::{Memory, Numeral, put};
+use y86_base::{Memory, put, put_decimal};
 
 /// The field with a label and a place.
 macro_rules! shown_field {
@@ -95,7 +95,7 @@ pub fn seq_refusal(
     let mut out = Vec::new(alloc);
     let bits = valuation.bits.items();
     put(&mut out, b"no S")?;
-    put(&mut out, Numeral::decimal(rule as u64).as_bytes())?;
+    put_decimal(&mut out, rule as u64)?;
     put(&mut out, b"\n")?;
     put_line(&mut out, b"S", bits, seq_fields())?;
     put_atoms(&mut out, rows, bits, BIT_COUNT as usize, atoms)?;
@@ -119,7 +119,7 @@ pub fn plus_refusal(
     let mut out = Vec::new(alloc);
     let bits = valuation.bits.items();
     put(&mut out, b"no S")?;
-    put(&mut out, Numeral::decimal(rule as u64).as_bytes())?;
+    put_decimal(&mut out, rule as u64)?;
     put(&mut out, b"\n")?;
     put_line(&mut out, b"P", bits, previous_fields())?;
     put_line(&mut out, b"S", bits, plus_fields())?;

@@ -13,8 +13,8 @@ pub loop-i-preserved : goal.loop-i-preserved
 loop-i-preserved c =
     let built : IsBuilt c.build_on.new.self c.in_ok-copy.copy.net (get_or c.in_ok-copy.copy.gates c.loop-i.i 0) c.in_ok-d.d =
     subst (λ (xs : List ℕ). IsBuilt c.build_on.new.self c.in_ok-copy.copy.net (get_or xs c.loop-i.i 0) c.in_ok-d.d) c.items.ensures c.in_ok-d.ensures.built in
-    drawn_more c.in_ok-copy.copy.net c.in_ok-copy.copy.gates c.loop-i.store c.build_on.new.self c.loop-i.built c.build_on.new.built c.loop-i.dias.items c.push_dia.new.dias.items c.loop-i.i c.in_ok-d.d
-    c.loop-i.invariant c.build_on.ensures.stay c.build_on.ensures.known built c.in_ok-push_dia.ensures
+    drawn_more c.in_ok-copy.copy.net c.in_ok-copy.copy.gates c.loop-i.store c.build_on.new.self c.loop-i.built c.build_on.new.built c.loop-i.dias.items c.push.new.list.items c.loop-i.i c.in_ok-d.d
+    c.loop-i.invariant c.build_on.ensures.stay c.build_on.ensures.known built c.in_ok-push.ensures
 
 pub returns : goal.returns
 returns c =
