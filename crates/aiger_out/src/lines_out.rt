@@ -8,21 +8,14 @@ ghost use Rattle.aiger_out.specs.WrittenLines.{and_line_of, numbers_of, output_s
 use crate::form::Header;
 use crate::graph::And;
 use ctl_rules::Rule;
-use y86_base::{Memory, Numeral, put};
-
-/// Puts a number.
-fn put_number(out: &mut Vec<u8>, n: u64) -> Result<(), Memory>
-    ensures { OnOk result (out.new.items ≡ out.old.items ++ spec.decimal n) }
-{
-    put(out, Numeral::decimal(n).as_bytes())
-}
+use y86_base::{Memory, put, put_decimal};
 
 /// Puts a blank and a number.
 fn put_spaced(out: &mut Vec<u8>, n: u64) -> Result<(), Memory>
     ensures { OnOk result (out.new.items ≡ out.old.items ++ spec.spaced n) }
 {
     put(out, b" ")?;
-    put_number(out, n)
+    put_decimal(out, n)
 }
 
 /// Puts the header's line.
@@ -42,7 +35,7 @@ pub(crate) fn put_header(out: &mut Vec<u8>, h: Header) -> Result<(), Memory>
 fn put_literal(out: &mut Vec<u8>, x: u64) -> Result<(), Memory>
     ensures { OnOk result (out.new.items ≡ out.old.items ++ with_line_feeds (spec.decimal x ∷ [])) }
 {
-    put_number(out, x)?;
+    put_decimal(out, x)?;
     put(out, b"\n")
 }
 
@@ -50,7 +43,7 @@ fn put_literal(out: &mut Vec<u8>, x: u64) -> Result<(), Memory>
 fn put_and(out: &mut Vec<u8>, lhs: u64, a: And) -> Result<(), Memory>
     ensures { OnOk result (out.new.items ≡ out.old.items ++ with_line_feeds (spec.and_text (record { lhs = lhs; rhs0 = a.first; rhs1 = a.second }) ∷ [])) }
 {
-    put_number(out, lhs)?;
+    put_decimal(out, lhs)?;
     put_spaced(out, a.first)?;
     put_spaced(out, a.second)?;
     put(out, b"\n")
@@ -61,9 +54,9 @@ fn put_input_symbol(out: &mut Vec<u8>, k: u64) -> Result<(), Memory>
     ensures { OnOk result (out.new.items ≡ out.old.items ++ with_line_feeds (spec.input_symbol k ∷ [])) }
 {
     put(out, b"i")?;
-    put_number(out, k)?;
+    put_decimal(out, k)?;
     put(out, b" x")?;
-    put_number(out, k)?;
+    put_decimal(out, k)?;
     put(out, b"\n")
 }
 
@@ -72,9 +65,9 @@ fn put_output_symbol(out: &mut Vec<u8>, k: u64, number: u64) -> Result<(), Memor
     ensures { OnOk result (out.new.items ≡ out.old.items ++ with_line_feeds (spec.output_symbol k number ∷ [])) }
 {
     put(out, b"o")?;
-    put_number(out, k)?;
+    put_decimal(out, k)?;
     put(out, b" O")?;
-    put_number(out, number)?;
+    put_decimal(out, number)?;
     put(out, b"\n")
 }
 

@@ -3,7 +3,7 @@ ghost use Rattle.std.specs.Prelude.{◌≡◌, ◌+◌, ◌-◌, ◌%◌, ◌^�
 ghost use Rattle.aiger_run.specs.Vectors.{bit_behind, vector, word_behind};
 ghost use Rattle.lane_eval.specs.Lanes.{across};
 
-use lane_eval::put_place;
+use lane_eval::{copies, put_place};
 use prog_gen::Draws;
 use std::alloc::Global;
 use std::simd::u64x8;
@@ -44,19 +44,6 @@ fn put_vectors(seed: u64, bits: &mut [bool], lanes: &mut [u64x8])
         put_vector(seed, p, bits);
         put_place(lanes, p, bits);
     }
-}
-
-/// A vector of `n` copies.
-fn copies<T: Copy>(alloc: Global, x: T, n: u32) -> Result<Vec<T>, Memory>
-    ensures { IfOk result (λ v. length v.items ≡ n) }
-{
-    let mut v = Vec::new(alloc);
-    for _k in 0..n {
-        if v.push(x).is_err() {
-            return Err(Memory);
-        }
-    }
-    Ok(v)
 }
 
 /// The vectors 0 to 511, each with `inputs` inputs.

@@ -1,30 +1,23 @@
 //! Prints the counts of the outputs of an AIGER text.
 ghost use Rattle.std.specs.Prelude.{◌≡◌, ◌<◌, ◌++◌, ◌∷◌, [], ℕ, IfOk, MatchResult, OnOk, get_or, length};
 ghost use Rattle.aiger_out.specs.Reading.{IsError};
-ghost use Rattle.aiger_out.specs.Written.{decimal, each};
+ghost use Rattle.aiger_out.specs.Written.{each};
 ghost use Rattle.aiger_run.specs.PrintedCounts.{PrintsCounts, count_line, counts_text};
 ghost use Rattle.y86_base.specs.Text.{with_line_feeds};
 
 use crate::counting::counts;
 use aiger_out::{AagError, read};
 use std::alloc::Global;
-use y86_base::{Memory, Numeral, put};
-
-/// Puts a number.
-fn put_number(out: &mut Vec<u8>, n: u64) -> Result<(), Memory>
-    ensures { OnOk result (out.new.items ≡ out.old.items ++ decimal n) }
-{
-    put(out, Numeral::decimal(n).as_bytes())
-}
+use y86_base::{Memory, put, put_decimal};
 
 /// Puts the line of an output.
 fn put_count(out: &mut Vec<u8>, i: u64, count: u64) -> Result<(), Memory>
     ensures { OnOk result (out.new.items ≡ out.old.items ++ with_line_feeds (count_line i count ∷ [])) }
 {
     put(out, b"o")?;
-    put_number(out, i)?;
+    put_decimal(out, i)?;
     put(out, b" ")?;
-    put_number(out, count)?;
+    put_decimal(out, count)?;
     put(out, b"\n")
 }
 

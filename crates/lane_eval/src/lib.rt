@@ -9,4 +9,4 @@ mod words;
 
 pub use lanes::{Scratch, eval512};
 pub use places::{first_false_place, put_place};
-pub use search::{Found, first_false};
+pub use search::{Found, copies, first_false};

@@ -94,13 +94,13 @@ fn search_block(
     first_of(r.list.items(), s)
 }
 
-/// A vector of `n` zeros.
-fn zeros<T: Copy>(alloc: Global, zero: T, n: u32) -> Result<Vec<T>, Memory>
+/// A vector of `n` copies.
+pub fn copies<T: Copy>(alloc: Global, x: T, n: u32) -> Result<Vec<T>, Memory>
     ensures { IfOk result (λ v. length v.items ≡ n) }
 {
     let mut v = Vec::new(alloc);
     for _k in 0..n {
-        if v.push(zero).is_err() {
+        if v.push(x).is_err() {
             return Err(Memory);
         }
     }
@@ -116,9 +116,9 @@ pub fn first_false(alloc: Global, r: &Rules, seed: u64, count: u64) -> Result<Op
     ensures { IfOk result (IsFirstFalse (holds_drawn r.now seed) r.now.list count) }
 {
     let n = r.net.vars();
-    let mut bits = zeros(alloc, false, n)?;
-    let mut words = zeros(alloc, 0u64, n)?;
-    let mut lanes = zeros(alloc, u64x8::splat(0), n)?;
+    let mut bits = copies(alloc, false, n)?;
+    let mut words = copies(alloc, 0u64, n)?;
+    let mut lanes = copies(alloc, u64x8::splat(0), n)?;
     let mut s = Scratch::new(alloc, &r.net)?;
     let mut at = 0;
     while at < count {
