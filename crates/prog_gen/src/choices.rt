@@ -19,12 +19,6 @@ const NO_REGISTER: u64 = 15;
 
 const NOP: u64 = 1;
 
-fn is_set(n: u64) -> bool
-    ensures { result ≡ words.set n }
-{
-    n != 0
-}
-
 fn icode_allowed(count: u64, n: u64) -> bool
     ensures { result ≡ fit.icode_allowed count n }
 {
@@ -62,16 +56,16 @@ fn cnd_allowed(ifun: u64, n: u64) -> bool
     ensures { result ≡ fit.cnd_allowed ifun n }
 {
     if ifun == 0 {
-        is_set(n)
+        n != 0
     } else {
-        ifun < 7 || !is_set(n)
+        ifun < 7 || n == 0
     }
 }
 
 fn destination_allowed(r: &Row, cnd: u64, n: u64) -> bool
     ensures { result ≡ fit.destination_allowed r.now cnd n }
 {
-    if r.conditional && !is_set(cnd) {
+    if r.conditional && cnd == 0 {
         n == NO_REGISTER
     } else {
         register_allowed(r.dst_e, n)
@@ -81,17 +75,13 @@ fn destination_allowed(r: &Row, cnd: u64, n: u64) -> bool
 fn zero_unless(may: bool, n: u64) -> bool
     ensures { result ≡ fit.zero_unless may n }
 {
-    may || !is_set(n)
+    may || n == 0
 }
 
 fn cnd_allowed_where(may: bool, ifun: u64, n: u64) -> bool
     ensures { result ≡ fit.cnd_allowed_where may ifun n }
 {
-    if may {
-        cnd_allowed(ifun, n)
-    } else {
-        !is_set(n)
-    }
+    if may { cnd_allowed(ifun, n) } else { n == 0 }
 }
 
 fn stat_allowed(count: u64, faulted: bool, stat: u64, icode: u64) -> bool
@@ -153,13 +143,13 @@ fn fetch_choice_allowed(v: Variant, before: &[u64], i: usize, n: u64) -> bool
     match i {
         0 => true,
         1 => {
-            if is_set(error) {
+            if error != 0 {
                 n == NOP
             } else {
                 icode_allowed(icode_count(v), n)
             }
         }
-        2 => n <= r.ifun_top && (!is_set(error) || n == 0),
+        2 => n <= r.ifun_top && (error == 0 || n == 0),
         3 => cnd_allowed_where(next_is_branch(r.next), ifun, n),
         4 => zero_unless(accesses(r.memory), n),
         _ => zero_unless(next_is_branch(r.next), n),
