@@ -27,4 +27,4 @@ pub use mending::{first_alone, put_once, put_wrong};
 pub use paragraph::{put_lines, put_paragraph};
 pub use told::{put_comparisons, put_finding, put_leaf, put_wrong_findings};
 pub use values::{Values, name_of};
-pub use words::{instruction, mnemonic, put_value, register, status, value_name};
+pub use words::{instruction, mnemonic, put_register, put_value, status, value_name};

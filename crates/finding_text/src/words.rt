@@ -35,8 +35,16 @@ fn entry(table: &'static [&'static str], n: u64) -> Option<&'static str> {
 }
 
 /// The name of a register: `%rax` to `%r14`, or none.
-pub fn register(n: u64) -> Option<&'static str> {
+fn register(n: u64) -> Option<&'static str> {
     entry(&REGISTERS, n)
+}
+
+/// Writes the name of a register after its purpose, unless it is RNONE.
+pub fn put_register(out: &mut String, what: &str, n: u64) -> Result<(), AllocError> {
+    match register(n) {
+        Some(name) => write!(out, ", {what} {name}"),
+        None => Ok(()),
+    }
 }
 
 /// The name of a status: `SBUB` to `SINS`.

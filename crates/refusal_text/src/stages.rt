@@ -1,5 +1,5 @@
 //! The situation of a counterexample, a line for each stage.
-use finding_text::{instruction, mnemonic, register, status};
+use finding_text::{instruction, mnemonic, put_register, status};
 use pipe_requirements::{DecodeLine, ExecuteLine, FetchLine, Lines, MemoryLine, WriteLine};
 use std::alloc::AllocError;
 
@@ -9,14 +9,6 @@ pub fn kind_name(kind: u64) -> &'static str {
         1 => "program",
         2 => "wrong path",
         _ => "bubble",
-    }
-}
-
-/// Writes the name of a register after its purpose, unless it is RNONE.
-fn put_register(out: &mut String, what: &str, n: u64) -> Result<(), AllocError> {
-    match register(n) {
-        Some(name) => write!(out, ", {what} {name}"),
-        None => Ok(()),
     }
 }
 

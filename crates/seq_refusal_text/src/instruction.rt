@@ -1,15 +1,7 @@
 //! The counterexample of SEQ or SEQ+: the instruction, and for SEQ+ what is stored of the instruction before.
-use finding_text::{instruction, mnemonic, register};
+use finding_text::{instruction, mnemonic, put_register};
 use seq_requirements::{LineNow, PreviousNow};
 use std::alloc::AllocError;
-
-/// Writes the name of a register after its purpose, unless it is RNONE.
-fn put_register(out: &mut String, what: &str, n: u64) -> Result<(), AllocError> {
-    match register(n) {
-        Some(name) => write!(out, ", {what} {name}"),
-        None => Ok(()),
-    }
-}
 
 /// Writes whether the condition holds, if there is one.
 fn put_condition(out: &mut String, is_asked: bool, cnd: u64) -> Result<(), AllocError> {
