@@ -2,7 +2,7 @@
 use cosimulation::Part;
 use pipe_stage_text::{StageContent, put_address, put_instruction, put_number_pair, put_word_pair};
 use std::alloc::Global;
-use y86_base::{Flags, Image, Memory, Regs, Stat, Variant, put};
+use y86_base::{Flags, Image, Memory, Regs, Stat, Variant, push, put};
 use y86_isa::{Rec, Store, split};
 use yis_run::flag;
 
@@ -105,14 +105,6 @@ fn line_named(alloc: Global, name: &[u8], is_right: bool) -> Result<Line, Memory
     })
 }
 
-/// Adds a line.
-fn add(lines: &mut Vec<Line>, line: Line) -> Result<(), Memory> {
-    match lines.push(line) {
-        Ok(()) => Ok(()),
-        Err(_) => Err(Memory),
-    }
-}
-
 /// Adds the line of a register that at least one of two instructions writes.
 fn add_register(
     alloc: Global,
@@ -127,7 +119,7 @@ fn add_register(
     let mut line = line_named(alloc, name, one.0 == other.0 && one.1 == other.1)?;
     put_register(&mut line.is, one.0, one.1)?;
     put_register(&mut line.wanted, other.0, other.1)?;
-    add(lines, line)
+    push(lines, line)
 }
 
 /// Adds the line of a store that at least one of two instructions does.
@@ -143,7 +135,7 @@ fn add_store(
     let mut line = line_named(alloc, b"memory", one == other)?;
     put_stored(&mut line.is, one)?;
     put_stored(&mut line.wanted, other)?;
-    add(lines, line)
+    push(lines, line)
 }
 
 /// Adds the line of the flags.
@@ -151,7 +143,7 @@ fn add_flags(alloc: Global, lines: &mut Vec<Line>, one: Flags, other: Flags) -> 
     let mut line = line_named(alloc, b"flags", one == other)?;
     put_flags(&mut line.is, one)?;
     put_flags(&mut line.wanted, other)?;
-    add(lines, line)
+    push(lines, line)
 }
 
 /// Adds the line of the status.
@@ -159,7 +151,7 @@ fn add_status(alloc: Global, lines: &mut Vec<Line>, one: Stat, other: Stat) -> R
     let mut line = line_named(alloc, b"status", one == other)?;
     put(&mut line.is, one.name())?;
     put(&mut line.wanted, other.name())?;
-    add(lines, line)
+    push(lines, line)
 }
 
 /// What two instructions do, a line each.
@@ -196,7 +188,7 @@ fn add_words(
     let mut line = line_named(alloc, name, one == other)?;
     put_word_pair(&mut line.is, b"", one)?;
     put_word_pair(&mut line.wanted, b"", other)?;
-    add(lines, line)
+    push(lines, line)
 }
 
 /// The line of a part in which two final states differ.

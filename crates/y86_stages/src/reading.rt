@@ -4,7 +4,7 @@ ghost use Rattle.std.specs.Option.{option_map};
 ghost use Rattle.y86_stages.specs.ScannedWords as spec;
 
 use std::alloc::Global;
-use y86_base::Memory;
+use y86_base::{Memory, push};
 use y86_words::number_within;
 
 /// The processor whose cycles are shown.
@@ -140,10 +140,7 @@ fn keep_word(r: &mut ScannedArguments, word: &String) -> Result<(), Memory>
     let Ok(copy) = word.clone() else {
         return Err(Memory);
     };
-    match r.words.push(copy) {
-        Ok(()) => Ok(()),
-        Err(_) => Err(Memory),
-    }
+    push(&mut r.words, copy)
 }
 
 /// Reads a word, and returns whether it may occur there.
@@ -171,10 +168,7 @@ fn first_reading(alloc: Global) -> Result<ScannedArguments, Memory>
         return Err(Memory);
     };
     let mut words = Vec::new(alloc);
-    match words.push(name) {
-        Ok(()) => {}
-        Err(_) => return Err(Memory),
-    }
+    push(&mut words, name)?;
     Ok(ScannedArguments {
         words,
         processor: Processor::Pipe,
