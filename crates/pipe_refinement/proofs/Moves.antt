@@ -180,7 +180,8 @@ fetched_is x false i = refl
 abbrev pub flow_by : StageFlow → StageFlow → StageFlow → StageFlow → Flow
 flow_by d e m w = record { d = d; e = e; m = m; w = w }
 
-four : {d e m w d' e' m' w' : StageFlow} → d ≡ d' → e ≡ e' → m ≡ m' → w ≡ w' → flow_by d e m w ≡ flow_by d' e' m' w'
+-- flows with equal stages are equal
+pub four : {d e m w d' e' m' w' : StageFlow} → d ≡ d' → e ≡ e' → m ≡ m' → w ≡ w' → flow_by d e m w ≡ flow_by d' e' m' w'
 four p q r s = rw (p, q, r, s) refl
 
 -- the next flow is the moved one

@@ -45,9 +45,6 @@ operand_b-same NoB b b' h = refl
 operand_b-same Zero b b' h = refl
 operand_b-same ValB b b' h = h refl
 
-lt_ne : (n : ℕ) → n < 15 → n ≢ 15
-lt_ne n h e = absurd (omega arith)
-
 no_exempt : (lf s g : Bool) → s ≡ false → (lf && (s && g)) ≡ false
 no_exempt true s g e = rw e refl
 no_exempt false s g e = refl
@@ -168,7 +165,7 @@ module _ (x : RunContext) (t : ℕ) (c : Schedule) (p : PipeState) (f : ℕ → 
 
     takes : operand_is_val_a re.alu_a ≡ true → p.e.val_a ≡ we.val_a
     takes k =
-        he.val_a (lt_ne _ (source_a x.v x.image (in_e c) image ((sources_agree x.v we.icode).alu_a k)))
+        he.val_a (ne_of_lt (source_a x.v x.image (in_e c) image ((sources_agree x.v we.icode).alu_a k)))
         (no_exempt x.s.lf _ _ (ap (λ r. stores_val_a r.memory) row_e ∙ late (stores_val_a re.memory) refl))
       where
         late : (s : Bool) → stores_val_a re.memory ≡ s → stores_val_a re.memory ≡ false
@@ -183,7 +180,7 @@ module _ (x : RunContext) (t : ℕ) (c : Schedule) (p : PipeState) (f : ℕ → 
 
     alu_b_is : has_operand_a re.alu_a ≡ true → f name.aluB ≡ operand_b re.alu_b we.val_b
     alu_b_is k = ex.alu_b e (ok k) (rw row_e k) ∙ rw row_e refl
-        ∙ operand_b-same re.alu_b _ _ (λ z. he.val_b (lt_ne _ (source_b x.v x.image (in_e c) image ((sources_agree x.v we.icode).alu_b z))))
+        ∙ operand_b-same re.alu_b _ _ (λ z. he.val_b (ne_of_lt (source_b x.v x.image (in_e c) image ((sources_agree x.v we.icode).alu_b z))))
 
     alufun_is : has_operand_a re.alu_a ≡ true → f name.alufun ≡ alu_function re.selects we.ifun
     alufun_is k = ex.alufun e (ok k) (rw row_e k) ∙ rw (row_e, he.ifun) refl

@@ -37,9 +37,6 @@ three true false c h e = refl
 three false false true h e = cc
 three false false false h e = cc
 
-lt_ne : (n : ℕ) → n < 15 → n ≢ 15
-lt_ne n h e = absurd (omega arith)
-
 -- ---- what rides along
 
 pub live_good : (k : StageKind) → is_good k ≡ true → kind_is_live k ≡ true
@@ -167,7 +164,7 @@ module _ (x : RunContext) (t : ℕ) (c : Schedule) (p : PipeState) (f : ℕ → 
     where
       stay : store_word_comes_late x.s x.v p (is_good c.m) ≡ false → (q : Bool) → select_a_is_val_p re ≡ q → p.e.val_a ≡ cond (select_a_is_val_p re) we.val_p we.val_a
       stay n true q = rw q (he.val_p q)
-      stay n false q = rw q (he.val_a (lt_ne _ (source_a x.v x.image (in_e c) image ((sources_agree x.v we.icode).carried (three (stores_val_a re.memory) (address_is_val_a re.memory) (select_a_is_val_p re) k q)))) n)
+      stay n false q = rw q (he.val_a (ne_of_lt (source_a x.v x.image (in_e c) image ((sources_agree x.v we.icode).carried (three (stores_val_a re.memory) (address_is_val_a re.memory) (select_a_is_val_p re) k q)))) n)
 
       by : (q : Bool) → store_word_comes_late x.s x.v p (is_good c.m) ≡ q → f name.e_valA ≡ select_a re we
       by true q =

@@ -19,7 +19,7 @@ use Rattle.pipe_fields.specs.Layout.{FetchLine}
 use Rattle.pipe_obligations.specs.StageFlows.{is_missed, no_load_use_in_e, stage_flow_by, stops_by, flow_of as flow_was}
 use Rattle.pipe_refinement.specs.Invariant.{RunContext, CouplingInvariant, differ, missed_at, predicted_at, run_stage_flow, run_flow}
 use Rattle.pipe_refinement.specs.Kinds.{Schedule, Bubbled, Good, StageKind, Wrong, in_d, in_e, in_m, in_w, is_good}
-use Rattle.pipe_refinement.proofs.Moves.{flow_by}
+use Rattle.pipe_refinement.proofs.Moves.{flow_by, four}
 use Rattle.pipe_refinement.proofs.Views.{and_on}
 use Rattle.pipe_theorem.proofs.RealCycle.{back_of, fault_of, fields_at, hidden, kind_number, taken_of}
 
@@ -65,9 +65,6 @@ pub good_number : (k : StageKind) → (kind_number k == 1) ≡ is_good k
 good_number Bubbled = refl
 good_number Wrong = refl
 good_number Good = refl
-
-four : {d e m w d' e' m' w' : StageFlow} → d ≡ d' → e ≡ e' → m ≡ m' → w ≡ w' → flow_by d e m w ≡ flow_by d' e' m' w'
-four p q r s = rw (p, q, r, s) refl
 
 module _ (x : RunContext) (t : ℕ) (c : Schedule) (p : PipeState) (f : ℕ → ℕ) (rs : List Rec) (l : FetchLine)
     (i : CouplingInvariant x t c p rs) (cnd_e : is_good c.e ≡ true → set (f name.e_Cnd) ≡ (work_at x.v x.image (in_e c)).cnd) where
