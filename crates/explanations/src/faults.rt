@@ -11,7 +11,7 @@ pub struct FaultKind {
 }
 
 /// The faults of HCL.
-static HCL: [FaultKind; 35] = [
+static HCL: &[FaultKind] = &[
     FaultKind {
         code: "hcl.byte",
         meaning: "A byte outside comments and quoted texts isn't printable ASCII.",
@@ -225,7 +225,7 @@ static HCL: [FaultKind; 35] = [
 ];
 
 /// The faults of assembly.
-static ASSEMBLY: [FaultKind; 22] = [
+static ASSEMBLY: &[FaultKind] = &[
     FaultKind {
         code: "asm.byte",
         meaning: "A byte outside comments isn't printable ASCII.",
@@ -361,7 +361,7 @@ static ASSEMBLY: [FaultKind; 22] = [
 ];
 
 /// The faults of object text.
-static OBJECT: [FaultKind; 7] = [
+static OBJECT: &[FaultKind] = &[
     FaultKind {
         code: "yo.line",
         meaning: "A line that begins with `0x` isn't of the form `0xADDRESS: BYTES | COMMENT`.",
@@ -409,9 +409,9 @@ static OBJECT: [FaultKind; 7] = [
 /// The kinds of faults of a language: 0 is HCL, 1 is assembly, 2 is object text.
 pub fn fault_kinds(language: usize) -> &'static [FaultKind] {
     match language {
-        0 => &HCL,
-        1 => &ASSEMBLY,
-        2 => &OBJECT,
+        0 => HCL,
+        1 => ASSEMBLY,
+        2 => OBJECT,
         _ => &[],
     }
 }

@@ -25,7 +25,7 @@ pub enum Path {
 }
 
 /// The obligations of PIPE on fetch: O1 to O5.
-static FETCH: [Obligation; 5] = [
+static FETCH: &[Obligation] = &[
     Obligation {
         label: "O1",
         group: "fetch",
@@ -74,7 +74,7 @@ static FETCH: [Obligation; 5] = [
 ];
 
 /// The obligations of PIPE on decode: O6 to O11.
-static DECODE: [Obligation; 6] = [
+static DECODE: &[Obligation] = &[
     Obligation {
         label: "O6",
         group: "decode and forwarding",
@@ -132,7 +132,7 @@ static DECODE: [Obligation; 6] = [
 ];
 
 /// The obligations of PIPE on execute: O12 to O17.
-static EXECUTE: [Obligation; 6] = [
+static EXECUTE: &[Obligation] = &[
     Obligation {
         label: "O12",
         group: "execute",
@@ -190,7 +190,7 @@ static EXECUTE: [Obligation; 6] = [
 ];
 
 /// The obligations of PIPE on memory and write-back: O18 to O22.
-static MEMORY: [Obligation; 5] = [
+static MEMORY: &[Obligation] = &[
     Obligation {
         label: "O18",
         group: "memory",
@@ -239,7 +239,7 @@ static MEMORY: [Obligation; 5] = [
 ];
 
 /// The obligations of PIPE on motion: O23 to O27.
-static MOTION: [Obligation; 5] = [
+static MOTION: &[Obligation] = &[
     Obligation {
         label: "O23",
         group: "hazards",
@@ -287,8 +287,8 @@ static MOTION: [Obligation; 5] = [
     },
 ];
 
-/// The obligations of SEQ and SEQ+ up to write-back: S1 to S7.
-static SEQ_FIRST: [Obligation; 7] = [
+/// The obligations of SEQ and SEQ+ on fetch and decode: S1 to S7.
+static SEQ_DECODE: &[Obligation] = &[
     Obligation {
         label: "S1",
         group: "fetch",
@@ -354,8 +354,8 @@ static SEQ_FIRST: [Obligation; 7] = [
     },
 ];
 
-/// The other obligations of SEQ, S8 to S16. All but the last are also obligations of SEQ+.
-static SEQ_LAST: [Obligation; 9] = [
+/// The obligations of SEQ and SEQ+ on execute and memory: S8 to S15.
+static SEQ_MEMORY: &[Obligation] = &[
     Obligation {
         label: "S8",
         group: "execute",
@@ -428,19 +428,21 @@ static SEQ_LAST: [Obligation; 9] = [
         reason: "Otherwise the machine would stop elsewhere, or with another status.",
         book: "section 4.3.4 (memory stage)",
     },
-    Obligation {
-        label: "S16",
-        group: "next address",
-        brief: "the next PC",
-        signals: "new_pc",
-        demand: "If the status is 1 (AOK), `new_pc` is the next PC: valC for a `call` and a jump that is taken, valM for a `ret`, and valP for all others.",
-        reason: "Otherwise the program would go on elsewhere.",
-        book: "section 4.3.4 (PC update)",
-    },
 ];
 
+/// The last obligation of SEQ.
+static SEQ_LAST: &[Obligation] = &[Obligation {
+    label: "S16",
+    group: "next address",
+    brief: "the next PC",
+    signals: "new_pc",
+    demand: "If the status is 1 (AOK), `new_pc` is the next PC: valC for a `call` and a jump that is taken, valM for a `ret`, and valP for all others.",
+    reason: "Otherwise the program would go on elsewhere.",
+    book: "section 4.3.4 (PC update)",
+}];
+
 /// The last obligation of SEQ+.
-static SEQ_PLUS_LAST: [Obligation; 1] = [Obligation {
+static SEQ_PLUS_LAST: &[Obligation] = &[Obligation {
     label: "S16",
     group: "next address",
     brief: "the PC, by the instruction before",
@@ -450,45 +452,55 @@ static SEQ_PLUS_LAST: [Obligation; 1] = [Obligation {
     book: "section 4.5.1",
 }];
 
-/// The obligation with this number, in a group whose first obligation has the number `first`.
-fn from(group: &'static [Obligation], first: usize, number: usize) -> Option<&'static Obligation> {
-    group.get(number.wrapping_sub(first))
+/// The number of groups of obligations that a datapath has at most.
+const GROUP_COUNT: usize = 5;
+
+/// A group of obligations of PIPE; the groups are in the order of the numbers.
+fn pipe_group(place: usize) -> &'static [Obligation] {
+    match place {
+        0 => FETCH,
+        1 => DECODE,
+        2 => EXECUTE,
+        3 => MEMORY,
+        4 => MOTION,
+        _ => &[],
+    }
 }
 
-/// The obligation of PIPE with this number.
-fn pipe_obligation(number: usize) -> Option<&'static Obligation> {
-    if number <= 5 {
-        from(&FETCH, 1, number)
-    } else if number <= 11 {
-        from(&DECODE, 6, number)
-    } else if number <= 17 {
-        from(&EXECUTE, 12, number)
-    } else if number <= 22 {
-        from(&MEMORY, 18, number)
-    } else {
-        from(&MOTION, 23, number)
+/// A group of obligations of a datapath.
+fn obligation_group(path: Path, place: usize) -> &'static [Obligation] {
+    match path {
+        Path::Pipe => pipe_group(place),
+        Path::Seq | Path::SeqPlus => match place {
+            0 => SEQ_DECODE,
+            1 => SEQ_MEMORY,
+            2 if path == Path::Seq => SEQ_LAST,
+            2 => SEQ_PLUS_LAST,
+            _ => &[],
+        },
     }
 }
 
 /// The obligation of a datapath with this number, counted from 1.
 pub fn obligation_at(path: Path, number: u32) -> Option<&'static Obligation> {
-    let place = number as usize;
-    if path == Path::Pipe {
-        pipe_obligation(place)
-    } else if place <= 7 {
-        from(&SEQ_FIRST, 1, place)
-    } else if path == Path::SeqPlus && place == 16 {
-        from(&SEQ_PLUS_LAST, 16, place)
-    } else {
-        from(&SEQ_LAST, 8, place)
+    let mut place = u32::wrapping_sub(number, 1) as usize;
+    for k in 0..GROUP_COUNT {
+        let group = obligation_group(path, k);
+        if let Some(obligation) = group.get(place) {
+            return Some(obligation);
+        }
+        place = place.wrapping_sub(group.len());
     }
+    None
 }
 
 /// How many obligations a datapath has.
 pub fn obligation_count(path: Path) -> u32 {
-    match path {
-        Path::Seq => 16,
-        Path::SeqPlus => 16,
-        Path::Pipe => 27,
+    let mut count = 0;
+    for k in 0..GROUP_COUNT {
+        for _ in obligation_group(path, k) {
+            count = u32::wrapping_add(count, 1);
+        }
     }
+    count
 }

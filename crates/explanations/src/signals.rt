@@ -16,7 +16,7 @@ pub struct Staged {
 }
 
 /// The signals of PIPE: fetch.
-static PIPE_FETCH: [Signal; 13] = [
+static PIPE_FETCH: &[Signal] = &[
     Signal {
         name: "f_pc",
         meaning: "The address that is fetched: `F_predPC`, unless an older instruction goes on elsewhere.",
@@ -72,7 +72,7 @@ static PIPE_FETCH: [Signal; 13] = [
 ];
 
 /// The signals of PIPE: decode.
-static PIPE_DECODE: [Signal; 8] = [
+static PIPE_DECODE: &[Signal] = &[
     Signal {
         name: "d_srcA",
         meaning: "The register that is read as valA, or `RNONE`. Forwarding and stalls compare it with older destinations.",
@@ -108,7 +108,7 @@ static PIPE_DECODE: [Signal; 8] = [
 ];
 
 /// The signals of PIPE: execute.
-static PIPE_EXECUTE: [Signal; 8] = [
+static PIPE_EXECUTE: &[Signal] = &[
     Signal {
         name: "aluA",
         meaning: "The first operand of the ALU, whose result is `aluB` op `aluA`.",
@@ -144,7 +144,7 @@ static PIPE_EXECUTE: [Signal; 8] = [
 ];
 
 /// The signals of PIPE: memory.
-static PIPE_MEMORY: [Signal; 6] = [
+static PIPE_MEMORY: &[Signal] = &[
     Signal {
         name: "mem_addr",
         meaning: "The address that is read or written.",
@@ -172,7 +172,7 @@ static PIPE_MEMORY: [Signal; 6] = [
 ];
 
 /// The signals of PIPE: write-back.
-static PIPE_WRITE_BACK: [Signal; 5] = [
+static PIPE_WRITE_BACK: &[Signal] = &[
     Signal {
         name: "w_dstE",
         meaning: "The register that `w_valE` is written to.",
@@ -196,7 +196,7 @@ static PIPE_WRITE_BACK: [Signal; 5] = [
 ];
 
 /// The signals of PIPE: pipeline control.
-static PIPE_PIPELINE_CONTROL: [Signal; 10] = [
+static PIPE_PIPELINE_CONTROL: &[Signal] = &[
     Signal {
         name: "F_stall",
         meaning: "F keeps its predicted PC: while D is stalled, and while a `ret` is in the pipeline.",
@@ -240,7 +240,7 @@ static PIPE_PIPELINE_CONTROL: [Signal; 10] = [
 ];
 
 /// The signals of SEQ and SEQ+: fetch.
-static SEQ_FETCH: [Signal; 12] = [
+static SEQ_FETCH: &[Signal] = &[
     Signal {
         name: "pc",
         meaning: "The address of the instruction. SEQ+ computes it from the instruction before.",
@@ -292,7 +292,7 @@ static SEQ_FETCH: [Signal; 12] = [
 ];
 
 /// The signals of SEQ and SEQ+: decode.
-static SEQ_DECODE: [Signal; 4] = [
+static SEQ_DECODE: &[Signal] = &[
     Signal {
         name: "srcA",
         meaning: "The register that is read as valA, or `RNONE`.",
@@ -312,7 +312,7 @@ static SEQ_DECODE: [Signal; 4] = [
 ];
 
 /// The signals of SEQ and SEQ+: write-back.
-static SEQ_WRITE_BACK: [Signal; 2] = [
+static SEQ_WRITE_BACK: &[Signal] = &[
     Signal {
         name: "dstE",
         meaning: "The register that valE is written to, or `RNONE`. For a conditional move only if `Cnd` is 1.",
@@ -324,7 +324,7 @@ static SEQ_WRITE_BACK: [Signal; 2] = [
 ];
 
 /// The signals of SEQ and SEQ+: memory.
-static SEQ_MEMORY: [Signal; 2] = [
+static SEQ_MEMORY: &[Signal] = &[
     Signal {
         name: "mem_data",
         meaning: "The word that is written: `valA`, or `valP` for a `call`.",
@@ -336,13 +336,13 @@ static SEQ_MEMORY: [Signal; 2] = [
 ];
 
 /// The signals of SEQ and SEQ+: PC update.
-static SEQ_PC_UPDATE: [Signal; 1] = [Signal {
+static SEQ_PC_UPDATE: &[Signal] = &[Signal {
     name: "new_pc",
     meaning: "The next PC: `valC` for a `call` and a jump that is taken, `valM` for a `ret`, and `valP` for all others.",
 }];
 
 /// The signals of SEQ and SEQ+: execute.
-static SEQ_EXECUTE: [Signal; 2] = [
+static SEQ_EXECUTE: &[Signal] = &[
     Signal {
         name: "valE",
         meaning: "The result of the ALU.",
@@ -372,18 +372,18 @@ pub const GROUP_COUNT: usize = 12;
 /// only SEQ or SEQ+ has.
 pub fn signal_group(number: usize) -> (&'static str, &'static [Signal]) {
     match number {
-        0 => ("fetch", &PIPE_FETCH),
-        1 => ("decode", &PIPE_DECODE),
-        2 => ("execute", &PIPE_EXECUTE),
-        3 => ("memory", &PIPE_MEMORY),
-        4 => ("write-back", &PIPE_WRITE_BACK),
-        5 => ("pipeline control", &PIPE_PIPELINE_CONTROL),
-        6 => ("fetch", &SEQ_FETCH),
-        7 => ("decode", &SEQ_DECODE),
-        8 => ("write-back", &SEQ_WRITE_BACK),
-        9 => ("memory", &SEQ_MEMORY),
-        10 => ("PC update", &SEQ_PC_UPDATE),
-        11 => ("execute", &SEQ_EXECUTE),
+        0 => ("fetch", PIPE_FETCH),
+        1 => ("decode", PIPE_DECODE),
+        2 => ("execute", PIPE_EXECUTE),
+        3 => ("memory", PIPE_MEMORY),
+        4 => ("write-back", PIPE_WRITE_BACK),
+        5 => ("pipeline control", PIPE_PIPELINE_CONTROL),
+        6 => ("fetch", SEQ_FETCH),
+        7 => ("decode", SEQ_DECODE),
+        8 => ("write-back", SEQ_WRITE_BACK),
+        9 => ("memory", SEQ_MEMORY),
+        10 => ("PC update", SEQ_PC_UPDATE),
+        11 => ("execute", SEQ_EXECUTE),
         _ => ("", &[]),
     }
 }
