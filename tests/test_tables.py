@@ -50,9 +50,11 @@ ROWS = [
         "crates/pipe_fields/src/places.rt": [
             "const M: u32 = E + 34;", "pub const E_MORE: BitRange = place!(E + 27, 4);", "pub const E_CND: BitRange = place!(E + 31, 1);", "pub const BIT_COUNT: u32 = W + 15;",
         ],
+        "crates/pipe_requirements/specs/Flows.antt": ["        more = l.e.more;"],
     }),
     ("a field that is a signal in code", "crates/pipe_fields/src/table.rt", 'E_SRC_B "srcB" HELD_E_SRC_B,', '\n            E_MORE "more" E_MORE,', {
         "crates/pipe_fields/src/table.rt": ["pub const M_FIRST: usize = E_FIRST + 11;", "pub const FIELD_COUNT: usize = W_FIRST + 4;"],
+        "crates/pipe_requirements/src/lines.rt": ["    pub more: u64,", "            more: number(bits, place::E_MORE),"],
         "crates/hazard_rules/src/design.rt": ["static PLACES: [Place; 28] = field_table!(signal_places);"],
     }),
     ("a register number among the fields", "crates/pipe_fields/src/places.rt", "W_DST_M,", " W_MORE,", {

@@ -12,7 +12,7 @@ if __name__ == "__main__":
 
 from helpers.paths import TOP
 
-SIGNALS, PLUS, FIELDS = "crates/dp_signals", "crates/seq_plus", "crates/pipe_fields"
+SIGNALS, PLUS, FIELDS, LINES = "crates/dp_signals", "crates/seq_plus", "crates/pipe_fields", "crates/pipe_requirements"
 STAGES = {"f": "Fetch", "d": "Decode", "e": "Execute", "m": "Memory", "w": "Write"}
 GROUPS = ("state", "hardware", "defined")
 
@@ -166,14 +166,22 @@ def field_lists(text):
     return {name: [(stage, field, int(bits)) for bits, stage, field in re.findall(row, body(text, f"{name}_fields"))] for name in names}
 
 
+def lines(rows):
+    """For each stage the names of its fields, its kind first."""
+    return {it: [field for stage, field in rows if stage == it] for it in STAGES}
+
+
+def lines_defined(lists):
+    return lines([(stage, field) for fields in lists.values() for stage, field, _ in fields])
+
+
 def layout(text):
     """The definitions of lines of fields, how they are read from numbers, and the number of bits."""
     lists = field_lists(text)
-    with_kind = {stage for stage, _, _ in lists["kind"]}
-    for stage, line in STAGES.items():
-        names = [field for _, field, _ in lists[line.lower()]]
-        kind = ["kind"] if stage in with_kind else []
-        text = put(rf"(?<=^pub record {line}Line : Type 0 where\n).*?(?=^\n)", "".join(f"  pub {it} : ℕ\n" for it in [*kind, *names]), text)
+    for stage, fields in lines_defined(lists).items():
+        line = STAGES[stage]
+        kind, names = [it for it in fields if it == "kind"], [it for it in fields if it != "kind"]
+        text = put(rf"(?<=^pub record {line}Line : Type 0 where\n).*?(?=^\n)", "".join(f"  pub {it} : ℕ\n" for it in fields), text)
         rows = ["kind = kind"] if kind else []
         rows += [f"{it} = get_or xs {f'(at + {k})' if k else 'at'} 0" for k, it in enumerate(names)]
         text = put(rf"(?<=^{line.lower()}_by {'kind ' if kind else ''}xs at =\n    record \{{\n).*?(?=^    \}}\n)", "".join(f"      {it};\n" for it in rows), text)
@@ -202,26 +210,49 @@ def places(text, lists):
 
 
 def coded_fields(text):
-    """The rows of the table of fields in code: the stage, whether it is a kind, and whether it is a signal."""
+    """The rows of the table of fields in code: the stage, the name, and whether it is a signal."""
     rows = re.findall(r'^ +([A-Z])_(\w+) "\w+"( \w+)?,?$', found(r"macro_rules! field_table \{(.*?)^\}", text), re.M)
-    return [(stage.lower(), name == "KIND", bool(signal)) for stage, name, signal in rows]
+    return [(stage.lower(), name.lower(), bool(signal)) for stage, name, signal in rows]
 
 
 def indices(text):
     """The index of each line's first field in the table of fields."""
     rows = coded_fields(text)
-    before, count = "", sum(is_kind for _, is_kind, _ in rows)
+    before, count = "", sum(field == "kind" for _, field, _ in rows)
     for name in (*STAGES, ""):
         constant = f"{name.upper()}_FIRST" if name else "FIELD_COUNT"
         text = put(rf"^pub const {constant}: usize = .*?;$", f"pub const {constant}: usize = {before + ' + ' if before else ''}{count};", text)
-        before, count = constant, sum(stage == name and not is_kind for stage, is_kind, _ in rows)
+        before, count = constant, sum(stage == name and field != "kind" for stage, field, _ in rows)
     return text
+
+
+def lines_coded(text, rows):
+    """The lines of fields in code, and how they are read from bits."""
+    for stage, fields in lines([(stage, field) for stage, field, _ in rows]).items():
+        line = STAGES[stage]
+        text = put(rf"(?<=^pub struct {line}Line \{{\n).*?(?=^\}})", "".join(f"    pub {it}: u64,\n" for it in fields), text)
+        places_read = "".join(f"            {it}: number(bits, place::{stage.upper()}_{it.upper()}),\n" for it in fields)
+        text = put(rf"(?<=^        {stage}: {line}Line \{{\n).*?(?=^        \}},)", places_read, text)
+    return text
+
+
+def fields_in(text, lists):
+    """The fields that the code's lines have, as those of the definitions."""
+    rows = []
+    for stage, fields in lines_defined(lists).items():
+        members = [f"{it} = l.{stage}.{it}" for it in fields]
+        row = f"      {stage} = record {{ {'; '.join(members)} }};\n"
+        rows.append(row if len(row) < 140 else f"      {stage} = record {{\n{''.join(f'        {it};' + chr(10) for it in members)}      }};\n")
+    return put(r"(?<=^    record \{\n).*?(?=^    \}\n)", "".join(rows), text)
 
 
 def of_fields():
     spec, code, table, design = f"{FIELDS}/specs/Layout.antt", f"{FIELDS}/src/places.rt", f"{FIELDS}/src/table.rt", "crates/hazard_rules/src/design.rt"
+    coded, flows = f"{LINES}/src/lines.rt", f"{LINES}/specs/Flows.antt"
     signals = sum(is_signal for _, _, is_signal in coded_fields(read(table)))
     return {
+        coded: lines_coded(read(coded), coded_fields(read(table))),
+        flows: fields_in(read(flows), field_lists(read(spec))),
         spec: layout(read(spec)),
         code: places(read(code), field_lists(read(spec))),
         table: indices(read(table)),
