@@ -15,6 +15,9 @@ pub use hcl_tree::{CmpOp, Kind, Text};
 pub use kinds::{Kinds, can_be, is_boolean, kinds_of};
 pub use laws::{law_of_orders, law_of_values};
 pub use names::put_names;
-pub use table::{BoundDesign, Class, Design, Order, OrderedDesign, Role, Row, Table, is_defined};
+pub use table::{
+    BoundDesign, Class, Datapath, Design, Order, OrderedDesign, Role, Row, SequentialDatapath,
+    Table, is_defined,
+};
 pub use term::{NameId, Term, TermBranch};
 pub use value::{compare, is_below, value_of};

@@ -72,6 +72,23 @@ pub struct BoundDesign {
     pub ordered: OrderedDesign,
 }
 
+/// A datapath that does one instruction in each cycle.
+#[derive(Clone, Copy, Debug, PartialEq, Eq)]
+pub enum SequentialDatapath {
+    /// SEQ, whose state holds the PC.
+    Seq,
+    /// SEQ+, which computes the PC at the beginning of a cycle, from what it stored of the instruction before.
+    SeqPlus,
+}
+
+/// A datapath.
+#[derive(Clone, Copy, Debug, PartialEq, Eq)]
+pub enum Datapath {
+    Seq,
+    SeqPlus,
+    Pipe,
+}
+
 /// Whether a file must define the row.
 pub fn is_defined(role: &Role) -> bool
     ensures { result ≡ tables.is_defined role.now }
