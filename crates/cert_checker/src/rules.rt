@@ -361,7 +361,10 @@ impl CheckerState {
         if self.terms.len() >= MOST {
             return Err(Memory);
         }
-        push(&mut self.terms, TermDef { var, low, high })
+        match self.terms.push(TermDef { var, low, high }) {
+            Ok(()) => Ok(()),
+            Err(_) => Err(Memory),
+        }
     }
 
     /// Appends a claim.

@@ -223,8 +223,10 @@ impl<'a> ClaimWriter<'a> {
         if p >= self.most || p >= MOST {
             return Err(Memory);
         }
-        push(&mut self.steps, line)?;
-        Ok(p as u32)
+        match self.steps.push(line) {
+            Ok(()) => Ok(p as u32),
+            Err(_) => Err(Memory),
+        }
     }
 
     /// The claim that a term is the conjunction of two others, from the claims about their parts.

@@ -159,8 +159,10 @@ impl<'a> TermWriter<'a> {
         if t >= MOST {
             return Err(Memory);
         }
-        push(&mut self.terms, made)?;
-        Ok(t as u32 + 2)
+        match self.terms.push(made) {
+            Ok(()) => Ok(t as u32 + 2),
+            Err(_) => Err(Memory),
+        }
     }
 
     /// The term of a diagram that depends on no variable before `least`.
