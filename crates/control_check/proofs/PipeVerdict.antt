@@ -1,9 +1,10 @@
 -- From the decisions on PIPE's formulas and rules to the meaning of a verdict on the design.
-use Rattle.std.proofs.Common.{◌≡◌, ℕ, zero, suc, ◌+◌, ◌-◌, ◌<◌, ◌≤◌, inl, inr, Bool, true, false, not, List, [], ◌∷◌, length, get_or, slice_get, Some, None, refl, sym, ap, ◌∙◌, subst, arith}
-use Rattle.std.proofs.lemmas.Bool.{false≢true, cases_lt}
+use Rattle.std.proofs.Common.{◌≡◌, ℕ, ◌+◌, ◌-◌, ◌<◌, ◌≤◌, inl, inr, Bool, true, false, not, List, [], length, get_or, slice_get, Some, None, sym, ap, ◌∙◌, subst, arith}
+use Rattle.std.proofs.lemmas.Bool.{false≢true, cases_lt, not-true, not-false, not_from_true}
 use Rattle.std.proofs.lemmas.List.{get_or_past}
 use Rattle.std.proofs.lemmas.Option.{slice_get_within}
 use Rattle.std.proofs.Math.Bool.{not-not}
+use Rattle.y86_base.proofs.Lists.{element_at}
 use Rattle.y86_base.specs.declared.parts.Variant.{Variant}
 use Rattle.nets.specs.Nets.{Gates, truth}
 use Rattle.hcl_types.specs.Tables.{IsOrderOf}
@@ -63,37 +64,16 @@ module _ (v : Variant) (terms : List Term) (atoms : List Atom) (apart : AreApart
   pub decides_some : (g : ℕ) (f : ValuationTruth) (b : Bool) → IsDesignGate terms atoms net g (λ c α cv. not (f c α cv)) → IsDecided net g b → Decides (not b) (Somewhere v atoms (PipeControls terms) f)
   decides_some g f b h d =
       record {
-        yes = λ e. (let w = d.no (is_false b e) in let s = somewhere g (λ c α cv. not (f c α cv)) h w.0 w.2 in (fields_of w.0, s.0, s.1, in_range w.0, s.3, is_true (f (fields_of w.0) s.0 s.1) s.4));
-        no = λ e some. false≢true (sym (negated (f some.0 some.1 some.2) some.5) ∙ everywhere g (λ c α cv. not (f c α cv)) h (d.yes (was_true b e)) some.0 some.1 some.2 some.3 some.4);
+        yes = λ e. (let w = d.no (not-true b e) in let s = somewhere g (λ c α cv. not (f c α cv)) h w.0 w.2 in (fields_of w.0, s.0, s.1, in_range w.0, s.3, not-false (f (fields_of w.0) s.0 s.1) s.4));
+        no = λ e some. false≢true (sym (not_from_true (f some.0 some.1 some.2) some.5) ∙ everywhere g (λ c α cv. not (f c α cv)) h (d.yes (not-false b e)) some.0 some.1 some.2 some.3 some.4);
       }
-    where
-      is_false : (b : Bool) → not b ≡ true → b ≡ false
-      is_false true e = cc
-      is_false false e = refl
-
-      was_true : (b : Bool) → not b ≡ false → b ≡ true
-      was_true true e = refl
-      was_true false e = cc
-
-      is_true : (b : Bool) → not b ≡ false → b ≡ true
-      is_true true e = refl
-      is_true false e = cc
-
-      negated : (b : Bool) → b ≡ true → not b ≡ false
-      negated true e = refl
-      negated false e = cc
 
   -- ---- the rules
 
   module _ (s : Settings) (list : List Rule) (count : length list ≡ rule_count) (gates : (k : ℕ) (x : Rule) → slice_get list k ≡ Some x → IsDesignGate terms atoms net x.gate (obligation v s atoms (k + 1))) where
-    entry : {A : Type 0} (xs : List A) (k : ℕ) → k < length xs → (x : A) × (slice_get xs k ≡ Some x)
-    entry [] k lt = absurd (omega (arith, lt))
-    entry (x ∷ xs) zero lt = (x, refl)
-    entry (x ∷ xs) (suc k) lt = entry xs k (omega (arith, lt))
-
     pub holds : ((k : ℕ) (x : Rule) → slice_get list k ≡ Some x → IsAlwaysTrue net x.gate) → (i : ℕ) → 1 ≤ i → i ≤ rule_count → Everywhere v atoms (PipeControls terms) (obligation v s atoms i)
     holds always i l h =
-        let rule = entry list (i - 1) (omega (arith, l, h, count)) in
+        let rule = element_at list (i - 1) (omega (arith, l, h, count)) in
         let number : i - 1 + 1 ≡ i = omega (arith, l) in
         subst (λ n. Everywhere v atoms (PipeControls terms) (obligation v s atoms n)) number
         (everywhere rule.0.gate (obligation v s atoms (i - 1 + 1)) (gates (i - 1) rule.0 rule.1) (always (i - 1) rule.0 rule.1))
@@ -119,7 +99,7 @@ module _ (v : Variant) (terms : List Term) (atoms : List Atom) (apart : AreApart
       where
         before : (j : ℕ) → 1 ≤ j → j < k + 1 → (u : List Bool) → length u ≡ bit_count + length atoms → IsFalseAt v atoms (PipeControls terms) s j u → ⊥
         before j l lt u size f =
-            let rule = entry list (j - 1) (let z = slice_get_within list k x h.there in omega (arith, l, lt, z)) in
+            let rule = element_at list (j - 1) (let z = slice_get_within list k x h.there in omega (arith, l, lt, z)) in
             let back : j ≡ j - 1 + 1 = omega (arith, l) in
             false≢true (sym (gate_false (j - 1) rule.0 u rule.1 (subst (λ n. IsFalseAt v atoms (PipeControls terms) s n u) back f))
             ∙ h.earlier (j - 1) rule.0 (omega (arith, l, lt)) rule.1 u (size ∙ sym vars))

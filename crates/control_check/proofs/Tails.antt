@@ -3,6 +3,7 @@ use Rattle.std.proofs.Common.{◌≡◌, ℕ, zero, suc, ◌+◌, ◌-◌, ◌<�
 use Rattle.std.proofs.lemmas.Bool.Decides.{nat_tests}
 use Rattle.std.proofs.lemmas.List.{get_or_append_left, get_or-append_right, length-append}
 use Rattle.std.proofs.lemmas.Option.{slice_get_within}
+use Rattle.y86_base.proofs.Booleans.{clash}
 use Rattle.nets.specs.Nets.{Gates, truth}
 use Rattle.ctl_rules.specs.declared.rules.Rule.{Rule}
 use Rattle.bdd_decide.specs.Decisions.{IsAlwaysTrue, IsDecided}
@@ -26,10 +27,7 @@ at_or_behind P n k before behind = by (nat_lt k n) refl
     by false e = let le : n ≤ k = grind (arith, nat_tests, e) in behind (k - n) (omega (arith, le))
 
 holds : (net : Gates) (g : ℕ) (b : Bool) → b ≡ true → IsAlwaysTrue net g → IsDecided net g b
-holds net g b e all = record { yes = λ t. all; no = λ f. absurd (clash b e f) }
-  where
-    clash : (c : Bool) → c ≡ true → c ≡ false → ⊥
-    clash c t f = grind (arith, t, f)
+holds net g b e all = record { yes = λ t. all; no = λ f. clash b e f }
 
 -- if all rules that are left are true
 pub all_left : (net : Gates) (list : List Rule) (old new : List Bool) → AreTold net list old → IsRuleDecision net (drop (length old) list) None → IsFilled old (length list) new → AreTold net list new
@@ -78,10 +76,7 @@ next_left net list old mid new failure numbers told h filled is =
     gate_of (Some r) = r.gate
 
     fails : (g : ℕ) (b : Bool) → b ≡ false → (g' : ℕ) → g ≡ g' → (w : List Bool) → length w ≡ net.vars → truth net g' w ≡ false → IsDecided net g b
-    fails g b e g' same w size no-truth = record { yes = λ t. absurd (clash b t e); no = λ f. (w, size, subst (λ (x : ℕ). truth net x w ≡ false) (sym same) no-truth) }
-      where
-        clash : (c : Bool) → c ≡ true → c ≡ false → ⊥
-        clash c t f = grind (arith, t, f)
+    fails g b e g' same w size no-truth = record { yes = λ t. clash b t e; no = λ f. (w, size, subst (λ (x : ℕ). truth net x w ≡ false) (sym same) no-truth) }
 
 pub filled_none : (old : List Bool) (from : ℕ) → from ≡ length old → IsFilled old from old
 filled_none old from e = record { size = sym e; stay = λ k lt. refl; more = λ k le lt. absurd (omega (arith, e, le, lt)) }
