@@ -1,19 +1,11 @@
 -- A cycle in which each register loads.
-use Rattle.std.proofs.Common.{◌≡◌, ℕ, ◌==◌, Bool, true, false, not, ◌||◌, refl, arith}
-use Rattle.std.proofs.lemmas.Bool.{and_parts}
+use Rattle.std.proofs.Common.{◌≡◌, ℕ, ◌==◌, true, false, not, refl}
+use Rattle.std.proofs.lemmas.Bool.{and_parts, or_parts, not-true}
 use Rattle.y86_base.specs.Words.{set}
 use Rattle.dp_signals.specs.PipeCycle.{all_load, any_asked, ending, loaded, updates_of, next}
 use Rattle.dp_signals.specs.PipeNames as row
 use Rattle.dp_signals.specs.declared.register_updates.CycleEnd.TheVariants.{Going}
 use Rattle.dp_signals.specs.declared.pipe_state.PipeState.{PipeState}
-
-is_not : (b : Bool) → not b ≡ true → b ≡ false
-is_not false h = refl
-is_not true h = absurd (grind (arith, h))
-
-neither : (a b : Bool) → (a || b) ≡ false → (a ≡ false) × (b ≡ false)
-neither true b h = absurd (grind (arith, h))
-neither false b h = (refl, h)
 
 -- the machine goes on, and no register is to be stalled or bubbled
 record IsQuiet (f : ℕ → ℕ) : Type 0 where
@@ -32,15 +24,15 @@ record IsQuiet (f : ℕ → ℕ) : Type 0 where
 quiet : (f : ℕ → ℕ) → all_load f ≡ true → IsQuiet f
 quiet f h =
     let parts = and_parts (f row.Stat == 1) (not (any_asked f)) h in
-    let w = neither _ _ (is_not (any_asked f) parts.1) in
-    let m = neither _ _ w.0 in
-    let e = neither _ _ m.0 in
-    let d = neither _ _ e.0 in
-    let of_f = neither (set (f row.F_stall)) (set (f row.F_bubble)) d.0 in
-    let of_d = neither (set (f row.D_stall)) (set (f row.D_bubble)) d.1 in
-    let of_e = neither (set (f row.E_stall)) (set (f row.E_bubble)) e.1 in
-    let of_m = neither (set (f row.M_stall)) (set (f row.M_bubble)) m.1 in
-    let of_w = neither (set (f row.W_stall)) (set (f row.W_bubble)) w.1 in
+    let w = or_parts _ _ (not-true (any_asked f) parts.1) in
+    let m = or_parts _ _ w.0 in
+    let e = or_parts _ _ m.0 in
+    let d = or_parts _ _ e.0 in
+    let of_f = or_parts (set (f row.F_stall)) (set (f row.F_bubble)) d.0 in
+    let of_d = or_parts (set (f row.D_stall)) (set (f row.D_bubble)) d.1 in
+    let of_e = or_parts (set (f row.E_stall)) (set (f row.E_bubble)) e.1 in
+    let of_m = or_parts (set (f row.M_stall)) (set (f row.M_bubble)) m.1 in
+    let of_w = or_parts (set (f row.W_stall)) (set (f row.W_bubble)) w.1 in
     record {
       goes = parts.0;
       f_stall = of_f.0;
