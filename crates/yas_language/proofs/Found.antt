@@ -2,7 +2,7 @@
 use Rattle.std.proofs.Common.{◌≡◌, ap, sym, subst, ◌∙◌, ℕ, ◌-◌, ◌^◌, ◌%◌, ◌<◌, Bool, true, false, cond, List, [], ◌∷◌, ◌++◌, Option, Some, None, refl, arith}
 use Rattle.std.specs.Prelude.{not, ◌&&◌, ◌==◌, nat_le, unwrap_or}
 use Rattle.std.specs.Str.{bytes_eq}
-use Rattle.std.proofs.lemmas.Bool.{false≢true}
+use Rattle.std.proofs.lemmas.Bool.{false≢true, eqb-true}
 use Rattle.std.proofs.lemmas.Bool.Decides.{nat_tests}
 use Rattle.std.proofs.lemmas.List.{append-nil}
 use Rattle.std.proofs.lemmas.Option.{none-some, same_Some}
@@ -295,11 +295,8 @@ natural_is n e = by n.negative n.magnitude refl refl e
         let whole : record { negative = negative; magnitude = magnitude } ≡ n = λ i. record { negative = sym p i; magnitude = sym q i } in
         subst (λ (x : Number). IsNatural x x.magnitude) whole h
 
-    zero_is : (k : ℕ) → (k == 0) ≡ true → k ≡ 0
-    zero_is k e = grind (arith, nat_tests)
-
     zeros : (k : ℕ) (b : Bool) → (k == 0) ≡ b → not b ≡ false → IsNatural (record { negative = true; magnitude = Some k }) (Some k)
-    zeros k true z e = subst (λ m. IsNatural (record { negative = true; magnitude = Some m }) (Some m)) (sym (zero_is k z)) minus_zero
+    zeros k true z e = subst (λ m. IsNatural (record { negative = true; magnitude = Some m }) (Some m)) (sym (eqb-true k 0 z)) minus_zero
     zeros k false z e = absurd (false≢true (sym e))
 
     by : (negative : Bool) (magnitude : Option ℕ) → n.negative ≡ negative → n.magnitude ≡ magnitude → (negative && not (grammar.is_zero magnitude)) ≡ false → IsNatural n n.magnitude

@@ -1,7 +1,7 @@
 -- The assembler reads what is in the language.
 use Rattle.std.proofs.Common.{◌≡◌, ap, sym, subst, ◌∙◌, ℕ, ◌<◌, Bool, true, false, cond, List, [], ◌∷◌, Option, Some, None, refl, arith}
 use Rattle.std.specs.Prelude.{◌&&◌, ◌||◌, ◌==◌, codes, unwrap_or}
-use Rattle.std.proofs.lemmas.Bool.{false≢true}
+use Rattle.std.proofs.lemmas.Bool.{false≢true, and_right, eqb-true}
 use Rattle.std.proofs.lemmas.Bool.Decides.{nat_tests}
 use Rattle.std.proofs.lemmas.List.{append-nil}
 use Rattle.y86_base.proofs.Runs.{behind-run}
@@ -62,11 +62,7 @@ no_comment_start (word name) = (refl, refl)
 no_comment_start (number n) = (refl, refl)
 no_comment_start (register r) = (refl, refl)
 no_comment_start (directive d) = (refl, refl)
-no_comment_start (sign s) = (by (35 == s), by (47 == s))
-  where
-    by : (b : Bool) → (b && false) ≡ false
-    by true = refl
-    by false = refl
+no_comment_start (sign s) = (and_right (35 == s) false refl, and_right (47 == s) false refl)
 
 pub next_not_end : (text : List ℕ) (token : Token) (rest : List ℕ) → IsNext text token rest → ends text ≡ false
 next_not_end text token rest n = by (ends text) refl
@@ -88,11 +84,8 @@ record IsOther (test : ℕ → Bool) : Type 0 where
 sign_byte : (s : ℕ) (test : ℕ → Bool) → test s ≡ false → (byte : ℕ) → ((byte == s) && is_sign byte) ≡ true → test byte ≡ false
 sign_byte s test t byte e = by (byte == s) refl e
   where
-    same : (byte s : ℕ) → (byte == s) ≡ true → byte ≡ s
-    same byte s e = grind (arith, nat_tests)
-
     by : (b : Bool) → (byte == s) ≡ b → (b && is_sign byte) ≡ true → test byte ≡ false
-    by true p e = ap test (same byte s p) ∙ t
+    by true p e = ap test (eqb-true byte s p) ∙ t
     by false p e = absurd (false≢true e)
 
 value_first : (test : ℕ → Bool) → IsOther test → (width : Width) (ts : List Token) (v : Operand) (rest : List Token) → IsValue width ts v rest → (text : List ℕ) → HasTokens text ts

@@ -7,6 +7,7 @@ use Rattle.std.proofs.lemmas.Bool.{eqb-true, false≢true, and_parts}
 use Rattle.std.proofs.lemmas.Bool.Decides.{nat_tests}
 use Rattle.std.proofs.lemmas.Option.{none-some, same_Some}
 use Rattle.std.proofs.Math.Seq.{drop-append_seam}
+use Rattle.y86_base.proofs.Numbers.{eqb_self}
 use Rattle.y86_base.specs.declared.number.Number.{Number}
 use Rattle.y86_base.specs.Keyword.{keyword_at}
 use Rattle.y86_base.specs.Number.{IsDecimal, decimal_at, digits_at, sign_of}
@@ -67,10 +68,7 @@ token_start (directive (Data One)) text rest t = ap (begins (λ b. b == 46)) t
 token_start (directive (Data Two)) text rest t = ap (begins (λ b. b == 46)) t
 token_start (directive (Data Four)) text rest t = ap (begins (λ b. b == 46)) t
 token_start (directive (Data Eight)) text rest t = ap (begins (λ b. b == 46)) t
-token_start (sign s) text rest t = ap (begins (λ b. (b == s) && is_sign b)) t.1 ∙ (ap (λ b. b && is_sign s) (same s) ∙ t.0)
-  where
-    same : (s : ℕ) → (s == s) ≡ true
-    same s = grind (arith, nat_tests)
+token_start (sign s) text rest t = ap (begins (λ b. (b == s) && is_sign b)) t.1 ∙ (ap (λ b. b && is_sign s) (eqb_self s) ∙ t.0)
 
 -- no token begins with a blank
 sign_not_blank : (byte s : ℕ) → ((byte == s) && is_sign byte) ≡ true → is_blank byte ≡ false
@@ -138,10 +136,7 @@ no_word text e = ap (λ b. cond {A = Option (List ℕ × List ℕ)} b (Some (tak
 
 pub sign_read : (s : ℕ) (text rest : List ℕ) → IsNext text (sign s) rest → readers.sign s text ≡ Some rest
 unfolding readers.sign
-sign_read s text rest n = ap (after_byte s) (next_token text (sign s) rest n).1 ∙ ap (λ b. cond b (Some rest) None) (same s)
-  where
-    same : (s : ℕ) → (s == s) ≡ true
-    same s = grind (arith, nat_tests)
+sign_read s text rest n = ap (after_byte s) (next_token text (sign s) rest n).1 ∙ ap (λ b. cond b (Some rest) None) (eqb_self s)
 
 pub sign_found : (s : ℕ) (text rest : List ℕ) → is_sign s ≡ true → readers.sign s text ≡ Some rest → IsNext text (sign s) rest
 unfolding readers.sign

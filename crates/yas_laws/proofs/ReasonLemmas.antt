@@ -2,7 +2,7 @@
 use Rattle.std.proofs.Common.{◌≡◌, ◌≤◌, ap, sym, subst, ◌∙◌, ℕ, Bool, true, false, cond, List, [], ◌∷◌, Option, None, Some, Ok, Err, refl}
 use Rattle.std.specs.Prelude.{is_none, not, ◌||◌, nat_le}
 use Rattle.std.specs.List.{list_all}
-use Rattle.std.proofs.lemmas.Bool.{false≢true, and_parts}
+use Rattle.std.proofs.lemmas.Bool.{false≢true, and_parts, not-true}
 use Rattle.y86_base.specs.declared.parts.Variant.{Variant}
 use Rattle.yas_asm.specs.declared.fault.AsmWhy.{AsmWhy}
 use Rattle.yas_asm.specs.declared.fault.AsmWhy.TheVariants.{Syntax, BadByte, NumberTooWide, LabelTwice, LabelUnknown, OutsideMemory, Overlap, LabelLimit, Memory}
@@ -53,11 +53,7 @@ least test why here e =
     by false other l h e = absurd (false≢true (sym (ap not h) ∙ e))
 
 none : (test : AsmWhy → Bool) → list_all (λ why. not (test why)) reasons ≡ true → IsLeast test None
-none test e why = by (test why) (each (λ why. not (test why)) e why)
-  where
-    by : (b : Bool) → not b ≡ true → b ≡ false
-    by true e = absurd (false≢true e)
-    by false e = refl
+none test e why = not-true (test why) (each (λ why. not (test why)) e why)
 
 same_test : (test other : AsmWhy → Bool) → ((why : AsmWhy) → test why ≡ other why) → (told : Option AsmWhy) → IsLeast test told → IsLeast other told
 same_test test other same None h = λ why. sym (same why) ∙ h why

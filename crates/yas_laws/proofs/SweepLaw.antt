@@ -2,7 +2,7 @@
 use Rattle.std.proofs.Common.{◌≡◌, ◌+◌, ◌<◌, ◌≤◌, ap, sym, ◌∙◌, ℕ, zero, suc, ◌-◌, Bool, true, false, cond, List, [], ◌∷◌, ◌++◌, length, drop, refl, arith}
 use Rattle.std.specs.Prelude.{nat_eq, not, ◌&&◌, ◌||◌, ◌==◌, codes}
 use Rattle.std.specs.List.{list_all, starts_with}
-use Rattle.std.proofs.lemmas.Bool.{false≢true, not-true, eqb-true, and_parts}
+use Rattle.std.proofs.lemmas.Bool.{false≢true, not-true, eqb-true, and_parts, and_right}
 use Rattle.std.proofs.lemmas.Bool.Decides.{nat_tests}
 use Rattle.yas_asm.specs.Comments.{close_length, comment_length, is_good, bad_outside}
 use Rattle.yas_asm.specs.Laws.{begins_no_comment, CloseIsFirst, SweepPassesComments}
@@ -61,11 +61,7 @@ sweep_passes_comments = record {
 -- where a text begins with `*/`
 star_slash : (text : List ℕ) → starts_with nat_eq text (codes "*/") ≡ true → text ≡ 42 ∷ 47 ∷ drop 2 text
 star_slash [] e = absurd (false≢true e)
-star_slash (a ∷ []) e = absurd (false≢true (sym (neither (nat_eq 42 a)) ∙ e))
-  where
-    neither : (b : Bool) → (b && false) ≡ false
-    neither true = refl
-    neither false = refl
+star_slash (a ∷ []) e = absurd (false≢true (sym (and_right (nat_eq 42 a) false refl) ∙ e))
 star_slash (a ∷ b ∷ text) e =
     let two = and_parts (nat_eq 42 a) (nat_eq 47 b && true) e in
     let next = and_parts (nat_eq 47 b) true two.1 in
