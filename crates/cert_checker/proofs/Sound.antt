@@ -1,6 +1,7 @@
 -- A certificate is right at every pattern of bits: each claim holds, and each gate has the value of its term.
 use Rattle.std.proofs.Common.{◌≡◌, ◌⊎◌, inl, inr, ⊎_elim, ℕ, zero, suc, ◌+◌, ◌-◌, ◌<◌, ◌≤◌, Bool, true, false, not, ◌&&◌, cond, eqb, ltb, List, [], ◌∷◌, ◌++◌, length, take, map, get_or, slice_get, Option, Some, None, refl, sym, ap, ◌∙◌, subst, arith}
-use Rattle.std.proofs.lemmas.Bool.{and_parts, or_cases, eqb-true, ltb-true, ltb-false, false≢true}
+use Rattle.std.proofs.Math.Bool.{and-true, and_self}
+use Rattle.std.proofs.lemmas.Bool.{and_parts, or_cases, eqb-true, ltb-true, ltb-false, false≢true, and_right}
 use Rattle.std.proofs.lemmas.List.{length_push, map_push, take_more, take_all, get_or-map}
 use Rattle.std.proofs.lemmas.Option.{slice_get_cases, slice_get_within, get_or_from_slice_get, same_Some, none-some}
 use Rattle.nets.specs.Nets.{Gates, gate_value, truth, truths, values}
@@ -185,18 +186,6 @@ plain_and terms w a b c e =
     one_is : cert_value terms 1 w ≡ true
     one_is = value_one terms w
 
-    right_false : (x : Bool) → x && false ≡ false
-    right_false true = refl
-    right_false false = refl
-
-    right_true : (x : Bool) → x ≡ x && true
-    right_true true = refl
-    right_true false = refl
-
-    twice : (x : Bool) → x ≡ x && x
-    twice true = refl
-    twice false = refl
-
     both_zero : (eqb a 0 && eqb c 0) ≡ true → cert_value terms c w ≡ cert_value terms a w && cert_value terms b w
     both_zero h =
         let p = and_parts (eqb a 0) (eqb c 0) h in
@@ -205,7 +194,7 @@ plain_and terms w a b c e =
     right_zero : (eqb b 0 && eqb c 0) ≡ true → cert_value terms c w ≡ cert_value terms a w && cert_value terms b w
     right_zero h =
         let p = and_parts (eqb b 0) (eqb c 0) h in
-        rw (eqb-true b 0 p.0, eqb-true c 0 p.1, zero_is) (sym (right_false (cert_value terms a w)))
+        rw (eqb-true b 0 p.0, eqb-true c 0 p.1, zero_is) (sym (and_right (cert_value terms a w) false refl))
 
     left_one : (eqb a 1 && eqb c b) ≡ true → cert_value terms c w ≡ cert_value terms a w && cert_value terms b w
     left_one h =
@@ -215,12 +204,12 @@ plain_and terms w a b c e =
     right_one : (eqb b 1 && eqb c a) ≡ true → cert_value terms c w ≡ cert_value terms a w && cert_value terms b w
     right_one h =
         let p = and_parts (eqb b 1) (eqb c a) h in
-        rw (eqb-true b 1 p.0, eqb-true c a p.1, one_is) (right_true (cert_value terms a w))
+        rw (eqb-true b 1 p.0, eqb-true c a p.1, one_is) (sym (and-true (cert_value terms a w)))
 
     all_same : (eqb a b && eqb b c) ≡ true → cert_value terms c w ≡ cert_value terms a w && cert_value terms b w
     all_same h =
         let p = and_parts (eqb a b) (eqb b c) h in
-        rw (eqb-true a b p.0, eqb-true b c p.1) (twice (cert_value terms c w))
+        rw (eqb-true a b p.0, eqb-true b c p.1) (sym (and_self (cert_value terms c w)))
 
 plain_not : (terms : List TermDef) (w : List Bool) (a c : ℕ) → is_plain_not a c ≡ true → cert_value terms c w ≡ not (cert_value terms a w)
 plain_not terms w a c e = ⊎_elim (λ h. zero_one h) (λ h. one_zero h) (or_cases _ _ e)

@@ -1,6 +1,6 @@
 -- A test of the leaf that is picked.
 use Rattle.std.proofs.Common.{◌≡◌, Bool, true, false, ◌||◌, ◌&&◌, refl, sym, ap, ◌∙◌, List, [], ◌∷◌, ℕ, length}
-use Rattle.std.proofs.lemmas.Bool.{or_left, or_right}
+use Rattle.std.proofs.lemmas.Bool.{or_left, or_right, and_right}
 use Rattle.ctl_atoms.specs.declared.leaf.Leaf.{Leaf}
 use Rattle.ctl_picks.specs.declared.controls.Pick.{Pick}
 use Rattle.hcl_types.specs.Lists.{some}
@@ -23,11 +23,7 @@ step false true t fp fx rest a b e = e
 step false false t fp fx rest a b e = e
 step true false t fp fx rest a b e = let no : false ≡ true = a refl in cc
 step true true t fp true rest a b e = or_left fp rest (b refl)
-step true true t fp false rest a b e = ap (λ x. x || rest) (b refl) ∙ (e ∙ no t)
-  where
-    no : (t : Bool) → t && false ≡ false
-    no true = refl
-    no false = refl
+step true true t fp false rest a b e = ap (λ x. x || rest) (b refl) ∙ (e ∙ and_right t false refl)
 
 -- a test of the leaf whose gate is true, if only x has a true gate
 tested : (tr : ℕ → Bool) (f : Leaf → Bool) (x : Leaf) (ps : List Pick) → ((y : Leaf) → leaf_taken tr ps y ≡ true → x ≡ y)

@@ -1,5 +1,6 @@
 -- What a term needs, variant by variant, and the steps of loops over terms.
 use Rattle.std.proofs.Common.{rules, ◌≡◌, Bool, true, false, not, ◌||◌, ◌&&◌, refl, sym, ap, ◌∙◌, subst, List, [], ◌∷◌, ℕ, ◌<◌, ◌≤◌, ◌+◌, length, get_or, drop, map, if◌then◌else◌}
+use Rattle.std.proofs.lemmas.Bool.{and_right}
 use Rattle.std.proofs.lemmas.List.{at_drop_all, drop_more}
 use Rattle.std.proofs.Math.Bool.{or-false, and-true, and_comm}
 use Rattle.hcl_tree.specs.declared.tree.CmpOp.{CmpOp}
@@ -61,11 +62,7 @@ pub case_step : (t o c : Bool) (x r y : Leaf) → (t || ((o && c) && leaf_eq x y
 case_step t o c x r y = plain t o c (leaf_eq x y) (leaf_eq r y) ∙ ap (λ b. t || (o && b)) (sym (spread c x r y))
 
 pub shut : (o c : Bool) → c ≡ true → o && not c ≡ false
-shut o c h = ap (λ b. o && not b) h ∙ last o
-  where
-    last : (o : Bool) → o && false ≡ false
-    last true = refl
-    last false = refl
+shut o c h = ap (λ b. o && not b) h ∙ and_right o false refl
 
 pub branch_is : {A : Type 0} (m : Interpretation A) (env : ℕ → A) (b : TermBranch) → branch_value m env b ≡ (value m env b.guard, value m env b.value)
 branch_is {A} m env b = search (rules, bs.the_lemmas, fold_out-TermBranch A (A × A) (layer m env) pair b)
