@@ -1,7 +1,7 @@
 -- Registers, flags, memory and records after a cycle.
-use Rattle.std.proofs.Common.{◌≡◌, ℕ, inl, inr, Bool, true, false, not, ◌==◌, cond, List, [], ◌∷◌, ◌++◌, length, Some, None, refl, sym, ap, ◌∙◌, arith, append-nil, length-append}
+use Rattle.std.proofs.Common.{◌≡◌, ℕ, inl, inr, Bool, true, false, ◌==◌, cond, List, [], ◌∷◌, ◌++◌, length, Some, None, refl, sym, ap, ◌∙◌, arith, append-nil, length-append}
 use Rattle.std.specs.Option.{option_to_list}
-use Rattle.std.proofs.lemmas.Bool.{cases_Bool, false≢true}
+use Rattle.std.proofs.lemmas.Bool.{cases_Bool, false≢true, not-false}
 use Rattle.y86_base.specs.Registers.{with_register}
 use Rattle.y86_base.specs.Stat.{stat_of}
 use Rattle.y86_isa.specs.Blocks.{stored, written_back}
@@ -61,14 +61,10 @@ module _ (x : RunContext) (t : ℕ) (c : Schedule) (p : PipeState) (f : ℕ → 
     pub regs_are : (is_good c.w ≡ true → stops_at x.v x.image (in_w c) ≡ false) → next_regs p f ≡ (state_before x.v x.image (in_m c)).regs
     regs_are on = by (is_good c.w) refl
       where
-        aok_by : (b : Bool) → not b ≡ false → b ≡ true
-        aok_by true h = refl
-        aok_by false h = cc
-
         by : (g : Bool) → is_good c.w ≡ g → next_regs p f ≡ (state_before x.v x.image (in_m c)).regs
         by true w =
             let h = i.good_w w in
-            let q : (p.w.stat == 1) ≡ true = w_stat_is w ∙ aok_by _ (on w) in
+            let q : (p.w.stat == 1) ≡ true = w_stat_is w ∙ not-false _ (on w) in
             rw (q, written_e w, wr.dst_m w, wr.val_m w, h.dst_m, h.val_m)
             (ap (λ z. written_back z (work_at x.v x.image (in_w c)).dst_e (work_at x.v x.image (in_w c)).val_e (work_at x.v x.image (in_w c)).dst_m (work_at x.v x.image (in_w c)).val_m) i.regs
             ∙ sym (regs_next x.v x.image (in_w c) (live_w w) (on w)) ∙ ap (λ j. (state_before x.v x.image j).regs) (sym (one c.w (in_w c) w)))

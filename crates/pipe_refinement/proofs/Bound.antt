@@ -1,5 +1,7 @@
 -- Five cycles for each record.
 use Rattle.std.proofs.Common.{◌≡◌, ℕ, ◌+◌, ◌*◌, ◌≤◌, Bool, true, false, not, ◌&&◌, ◌||◌, cond, refl, sym, ap, ◌∙◌, arith}
+use Rattle.std.proofs.lemmas.Bool.{or_from}
+use Rattle.y86_base.proofs.Booleans.{clash}
 use Rattle.dp_signals.specs.declared.pipe_state.PipeState.{PipeState}
 use Rattle.pipe_refinement.specs.Invariant.{RunContext, run_flow}
 use Rattle.pipe_refinement.specs.Kinds.{Schedule, Bubbled, StageKind, requested_controls, count, fetched_kind, is_good, is_wrong, next_schedule, moved_by}
@@ -71,18 +73,13 @@ module _ (x : RunContext) (p : PipeState) (f : ℕ → ℕ) (c : Schedule) (fetc
       no_e : is_good c'.e ≡ false
       no_e = e_is ∙ ap (λ z. z && (loads k.e && not k.d.stall)) d
 
-      none_of : (a b : Bool) → a ≡ false → b ≡ false → a || b ≡ true → ⊥
-      none_of false false u v w = cc
-      none_of true b u v w = cc
-      none_of false true u v w = cc
-
       by : (z : Bool) → is_good g ≡ z → is_good c'.d ≡ true
       by true e' = good_d k g c q.kept ∙ only_new _ _ _ _ d l ∙ e'
       by false e' =
           let none_d : is_good c'.d ≡ false = good_d k g c q.kept ∙ only_new _ _ _ _ d l ∙ e' in
           let calm : is_wrong c'.d ≡ false = quiet_d x c' q.legal none_d no_e (m_is ∙ e) (w_is ∙ m) in
           let wrong_g : is_wrong g ≡ false = sym (wrong_loaded k.d c.d g l) ∙ calm in
-          absurd (none_of _ _ e' wrong_g q.some)
+          clash (is_good g || is_wrong g) q.some (or_from _ _ e' wrong_g)
 
   pub shorter : dist c' + 1 ≤ dist c + 5 * count (is_good c.w)
   shorter = by _ _ _ _ refl refl refl refl

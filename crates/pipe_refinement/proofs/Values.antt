@@ -1,6 +1,6 @@
 -- The values of a cycle are those of the instructions in E and M.
-use Rattle.std.proofs.Common.{◌≡◌, ◌≢◌, ℕ, ◌<◌, Bool, true, false, ◌&&◌, ◌||◌, ◌==◌, cond, List, None, refl, sym, ap, ◌∙◌, arith}
-use Rattle.std.proofs.lemmas.Bool.{false≢true, eq-eqb, or_left, or_right, and_left}
+use Rattle.std.proofs.Common.{◌≡◌, ◌≢◌, ℕ, Bool, true, false, ◌&&◌, ◌||◌, ◌==◌, cond, List, None, refl, sym, ap, ◌∙◌}
+use Rattle.std.proofs.lemmas.Bool.{false≢true, eq-eqb, or_left, or_right, and_left, and_right}
 use Rattle.y86_base.specs.Stat.{stat_number}
 use Rattle.y86_base.specs.declared.parts.Stat.TheVariants.{Adr}
 use Rattle.y86_base.specs.declared.parts.Stat.{Stat}
@@ -191,10 +191,6 @@ module _ (x : RunContext) (t : ℕ) (c : Schedule) (p : PipeState) (f : ℕ → 
     pub flags_are : next_flags p f ≡ we.flags
     flags_are = by re.sets_flags refl
       where
-        none : (b : Bool) → b && false ≡ false
-        none true = refl
-        none false = refl
-
         set_is : set (f name.set_cc) ≡ (p.e.stat == 1) && re.sets_flags
         set_is = fl ∙ and_on _ _ e ∙ ap (λ r. (p.e.stat == 1) && r.sets_flags) row_e
 
@@ -209,5 +205,5 @@ module _ (x : RunContext) (t : ℕ) (c : Schedule) (p : PipeState) (f : ℕ → 
             (follows x.v x.image (in_e c)).flags ∙ rw s refl in
             set_to ∙ sym want
         by false s =
-            ap (λ z. cond z (alu_flags (f name.alufun) (f name.aluA) (f name.aluB)) p.flags) (set_is ∙ ap (λ z. (p.e.stat == 1) && z) s ∙ none (p.e.stat == 1))
+            ap (λ z. cond z (alu_flags (f name.alufun) (f name.aluA) (f name.aluB)) p.flags) (set_is ∙ ap (λ z. (p.e.stat == 1) && z) s ∙ and_right (p.e.stat == 1) false refl)
             ∙ i.flags ∙ sym ((follows x.v x.image (in_e c)).flags ∙ rw s refl)

@@ -311,9 +311,6 @@ picked f d e m w f_lost d_lost e_lost m_lost =
 any_of : (a b c d a' b' c' d' : Bool) → a ≡ a' → b ≡ b' → c ≡ c' → d ≡ d' → (a || b || c || d) ≡ (a' || b' || c' || d')
 any_of a b c d a' b' c' d' ea eb ec ed = rw (ea, eb, ec, ed) refl
 
-row_is : (n row : ℕ) → (n == row) ≡ true → n ≡ row
-row_is n row e = grind (arith, nat_tests)
-
 more_0 : (row n : ℕ) → row ≤ n → row ≤ n
 more_0 row n h = h
 

@@ -3,6 +3,7 @@ use Rattle.std.proofs.Common.{◌≡◌, ◌↔◌, ◌⊎◌, inl, inr, ℕ, �
 use Rattle.std.specs.Prelude.{codes}
 use Rattle.std.proofs.lemmas.Bool.Decides.{nat_tests}
 use Rattle.std.proofs.lemmas.Bool.{le-leb, and_from}
+use Rattle.y86_base.proofs.Booleans.{clash}
 use Rattle.y86_base.specs.Words.{set}
 use Rattle.y86_base.specs.declared.parts.Stat.{Stat}
 use Rattle.y86_base.specs.declared.parts.Stat.TheVariants.{Adr, Aok, Hlt, Ins}
@@ -95,11 +96,8 @@ no_fault : (fault : Bool) (stat fetch : Stat) → (fault ≡ true → ⊥) → s
 no_fault true stat fetch never e = absurd (never refl)
 no_fault false stat fetch never e = e
 
-opposite : (b : Bool) → b ≡ true → b ≡ false → ⊥
-opposite b e e' = cc
-
 no_access : (v : Variant) (m : Machine) → is_aok (work v m).fetch_stat ≡ false → (work v m).fault ≡ true → ⊥
-no_access v m bad fault = opposite _ (access-from_fault v m fault) (does_nothing-from_bad v m bad).access
+no_access v m bad fault = clash _ (access-from_fault v m fault) (does_nothing-from_bad v m bad).access
 
 step_ins : (v : Variant) (m : Machine) → ((work v m).stat ≡ Ins) ↔ ((work v m).fetch_stat ≡ Ins)
 step_ins v m =
@@ -109,10 +107,10 @@ step_ins v m =
 -- ---- the texts
 
 valid_of : (icode ifun : ℕ) → Kind icode ifun → (icode == 15) ≡ true → is_valid icode ifun ≡ false
-valid_of icode ifun kind e = elim kind [ inl good ↦ absurd (opposite _ e good.1) | inr bad ↦ bad.0 ]
+valid_of icode ifun kind e = elim kind [ inl good ↦ absurd (clash _ e good.1) | inr bad ↦ bad.0 ]
 
 icode_of : (icode ifun : ℕ) → Kind icode ifun → is_valid icode ifun ≡ false → (icode == 15) ≡ true
-icode_of icode ifun kind e = elim kind [ inl good ↦ absurd (opposite _ good.0 e) | inr bad ↦ bad.1 ]
+icode_of icode ifun kind e = elim kind [ inl good ↦ absurd (clash _ good.0 e) | inr bad ↦ bad.1 ]
 
 pub texts_are_of_runs : TextsAreOfRuns
 texts_are_of_runs v m h going is =

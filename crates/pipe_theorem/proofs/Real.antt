@@ -14,12 +14,12 @@ use Rattle.y86_base.specs.Words.{set}
 use Rattle.dp_signals.specs.declared.pipe_state.PipeState.{PipeState}
 use Rattle.dp_signals.proofs.Bits.{set_bit}
 use Rattle.pipe_motion.specs.Predictions.{predicts}
-use Rattle.pipe_motion.specs.Flow.{StageFlow, entering_w}
+use Rattle.pipe_motion.specs.Flow.{entering_w}
 use Rattle.pipe_fields.specs.Layout.{FetchLine}
 use Rattle.pipe_obligations.specs.StageFlows.{is_missed, no_load_use_in_e, stage_flow_by, stops_by, flow_of as flow_was}
 use Rattle.pipe_refinement.specs.Invariant.{RunContext, CouplingInvariant, differ, missed_at, predicted_at, run_stage_flow, run_flow}
 use Rattle.pipe_refinement.specs.Kinds.{Schedule, Bubbled, Good, StageKind, Wrong, in_d, in_e, in_m, in_w, is_good}
-use Rattle.pipe_refinement.proofs.Moves.{flow_by, four}
+use Rattle.pipe_refinement.proofs.Moves.{four}
 use Rattle.pipe_refinement.proofs.Views.{and_on}
 use Rattle.pipe_theorem.proofs.RealCycle.{back_of, fault_of, fields_at, hidden, kind_number, taken_of}
 
