@@ -1,7 +1,7 @@
 -- The sweep for bad bytes finds one exactly if there is one outside the comments.
 use Rattle.std.proofs.Common.{◌≡◌, ◌⊎◌, inl, inr, ap, sym, ◌∙◌, ℕ, zero, suc, ◌<◌, ◌≤◌, Bool, true, false, List, [], ◌∷◌, length, drop, refl, arith, length-drop}
 use Rattle.std.specs.Prelude.{not, ◌||◌}
-use Rattle.std.proofs.lemmas.Bool.{false≢true}
+use Rattle.std.proofs.lemmas.Bool.{false≢true, or_right}
 use Rattle.std.proofs.lemmas.Bool.Decides.{nat_tests}
 use Rattle.yas_asm.specs.Comments.{bad_outside, comment_length, is_good}
 use Rattle.yas_laws.proofs.SweepLaw.{sweep_passes_comments}
@@ -58,11 +58,7 @@ bad_read _ (here byte bytes none) =
     let bad : is_good byte ≡ false = not_good byte none in
     sweep_passes_comments.plain byte bytes (no_length (byte ∷ bytes) (no_comment byte bytes bad)) ∙ ap (λ b. not b || bad_outside 0 bytes) bad
 bad_read _ (behind_byte byte bytes none h) =
-    sweep_passes_comments.plain byte bytes (no_length (byte ∷ bytes) none) ∙ ap (λ b. not (is_good byte) || b) (bad_read bytes h) ∙ by (not (is_good byte))
-  where
-    by : (b : Bool) → (b || true) ≡ true
-    by true = refl
-    by false = refl
+    sweep_passes_comments.plain byte bytes (no_length (byte ∷ bytes) none) ∙ ap (λ b. not (is_good byte) || b) (bad_read bytes h) ∙ or_right (not (is_good byte)) true refl
 bad_read _ (behind_comment text rest is h) =
     let m = comment_measured text rest is in
     sweep_passes_comments.comment text m.some ∙ ap (bad_outside 0) m.behind_is ∙ bad_read rest h

@@ -1,12 +1,12 @@
 -- Comments as a relation, which agrees with the lengths that the assembler computes.
 use Rattle.std.proofs.Common.{◌≡◌, ap, sym, subst, ◌∙◌, ℕ, zero, suc, ◌+◌, ◌-◌, ◌<◌, ◌≤◌, Bool, true, false, cond, List, [], ◌∷◌, ◌++◌, length, take, drop, take_while, refl, arith, length-append, length-drop, length-take}
+use Rattle.yas_laws.proofs.SpacingLemmas.{ends_at-none}
 use Rattle.std.specs.Prelude.{nat_eq, not, ◌&&◌, ◌||◌, ◌==◌, codes}
 use Rattle.std.specs.List.{list_all, starts_with}
 use Rattle.std.proofs.lemmas.Bool.{eqb-true}
 use Rattle.std.proofs.lemmas.Bool.Decides.{nat_tests}
 use Rattle.std.proofs.lemmas.List.{append_assoc, append-nil, take-append-drop}
-use Rattle.std.proofs.Math.Seq.{drop-append_seam}
-use Rattle.std.proofs.lemmas.Grind.{common_steps}
+use Rattle.std.proofs.Math.Seq.{drop-append_seam, drop-length}
 use Rattle.y86_base.specs.Text.{begins, behind, is_blank}
 use Rattle.y86_base.proofs.Runs.{behind-run, list_all-append, run_and_rest, run_passes}
 use Rattle.yas_asm.specs.Comments.{close_length, comment_length, ends, ends_at}
@@ -50,9 +50,6 @@ pub record IsMeasured (text rest : List ℕ) : Type 0 where
   pub some : 0 < comment_length text
   pub behind_is : drop (comment_length text) text ≡ rest
 
-drop_all : (text : List ℕ) → drop (length text) text ≡ []
-drop_all text = grind (arith, common_steps)
-
 behind_closed : (inside rest : List ℕ) → drop (length inside + 2) (inside ++ 42 ∷ 47 ∷ rest) ≡ rest
 behind_closed inside rest =
     ap (λ t. drop (length inside + 2) t) (sym (append_assoc inside (42 ∷ 47 ∷ []) rest))
@@ -64,8 +61,8 @@ behind_closed inside rest =
 
 pub comment_measured : (text rest : List ℕ) → IsComment text rest → IsMeasured text rest
 unfolding comment_length
-comment_measured _ _ (hash text) = record { some = omega arith; behind_is = drop_all (35 ∷ text) }
-comment_measured _ _ (slashes text) = record { some = omega arith; behind_is = drop_all (47 ∷ 47 ∷ text) }
+comment_measured _ _ (hash text) = record { some = omega arith; behind_is = drop-length (35 ∷ text) }
+comment_measured _ _ (slashes text) = record { some = omega arith; behind_is = drop-length (47 ∷ 47 ∷ text) }
 comment_measured _ _ (closed inside rest none) =
     let n : close_length (inside ++ 42 ∷ 47 ∷ rest) ≡ length inside + 2 = close_is inside rest none in
     let m : cond (not (close_length (inside ++ 42 ∷ 47 ∷ rest) == 0)) (2 + close_length (inside ++ 42 ∷ 47 ∷ rest)) 0 ≡ 2 + (length inside + 2) =
@@ -126,34 +123,32 @@ comment_found (byte ∷ next ∷ bytes) some = by (byte == 35) (nat_eq 47 byte) 
     by : (h s t u : Bool) → (byte == 35) ≡ h → nat_eq 47 byte ≡ s → nat_eq 47 next ≡ t → nat_eq 42 next ≡ u → 0 < length_by byte next bytes h s t u
         → IsComment (byte ∷ next ∷ bytes) (drop (length_by byte next bytes h s t u) (byte ∷ next ∷ bytes))
     by true s t u e f g k lt =
-        subst (λ r. IsComment (byte ∷ next ∷ bytes) r) (sym (drop_all (byte ∷ next ∷ bytes)))
+        subst (λ r. IsComment (byte ∷ next ∷ bytes) r) (sym (drop-length (byte ∷ next ∷ bytes)))
         (subst (λ b. IsComment (b ∷ next ∷ bytes) []) (sym (eqb-true byte 35 e)) (hash (next ∷ bytes)))
     by false true true u e f g k lt =
-        subst (λ r. IsComment (byte ∷ next ∷ bytes) r) (sym (drop_all (byte ∷ next ∷ bytes)))
+        subst (λ r. IsComment (byte ∷ next ∷ bytes) r) (sym (drop-length (byte ∷ next ∷ bytes)))
         (subst (λ b. IsComment (b ∷ next ∷ bytes) []) (eqb-true 47 byte f) (subst (λ b. IsComment (47 ∷ b ∷ bytes) []) (eqb-true 47 next g) (slashes bytes)))
     by false true false true e f g k lt = at_close (close_length bytes == 0) refl (eqb-true 47 byte f) (eqb-true 42 next k) lt
     by false true false false e f g k lt = absurd (omega (arith, lt))
     by false false t u e f g k lt = absurd (omega (arith, lt))
 
 -- the end of a line
+-- a comment begins with no blank
+pub no_blank : (comment rest : List ℕ) → IsComment comment rest → begins is_blank comment ≡ false
+no_blank _ _ (hash text) = refl
+no_blank _ _ (slashes text) = refl
+no_blank _ _ (closed inside rest none) = refl
+
 pub end_read : (text : List ℕ) → IsEnd text → ends text ≡ true
 unfolding ends comment_length
-end_read text (plain blank) = subst (λ t. ends_at t ≡ true) (sym nothing) (ends_nothing)
+end_read text (plain blank) = subst (λ t. ends_at t ≡ true) (sym nothing) ends_at-none
   where
     nothing : behind is_blank text ≡ []
     nothing = ap (behind is_blank) (sym (append-nil text)) ∙ behind-run is_blank text [] blank refl
-
-    ends_nothing : ends_at [] ≡ true
-    ends_nothing = refl
 end_read text (commented blanks comment rest whole blank is rest_blank) =
     let m = comment_measured comment rest is in
     let there : behind is_blank text ≡ comment = ap (behind is_blank) whole ∙ behind-run is_blank blanks comment blank (no_blank comment rest is) in
     ap ends_at there ∙ ap (list_all is_blank) m.behind_is ∙ rest_blank
-  where
-    no_blank : (comment rest : List ℕ) → IsComment comment rest → begins is_blank comment ≡ false
-    no_blank _ _ (hash text) = refl
-    no_blank _ _ (slashes text) = refl
-    no_blank _ _ (closed inside rest none) = refl
 
 pub end_found : (text : List ℕ) → ends text ≡ true → IsEnd text
 unfolding ends

@@ -30,7 +30,7 @@ use Rattle.yas_asm.specs.Tokens.{is_name_start}
 use Rattle.yas_language.specs.Tokens.{Token, word, number, register, directive, sign, dollar, comma, colon, left_paren, HasTokens, IsComment, hash, slashes, closed, IsEnd, plain, commented, IsNext}
 use Rattle.yas_language.specs.Statements.{value, instruction, IsValue, a_number, a_label, IsOperand, bare, with_dollar, IsMemory, no_displacement, with_displacement, IsMove, IsOperation, IsJump, IsNatural, positive, minus_zero, IsInstruction, IsDirective, IsStatement, mnemonic_first, directive_first}
 use Rattle.yas_language.specs.Statements as rows
-use Rattle.yas_language.proofs.Comments.{end_found}
+use Rattle.yas_language.proofs.Comments.{end_found, no_blank}
 use Rattle.yas_language.proofs.Found.{value_is}
 use Rattle.yas_language.proofs.Readers.{starts, directive_read, excluded, next_start, next_token, no_directive, no_number, no_sign, no_word, number_read, register_read, sign_read, word_read}
 
@@ -46,11 +46,6 @@ behind_end text end test h s = by end
     comment_starts _ _ (hash t) = h
     comment_starts _ _ (slashes t) = s
     comment_starts _ _ (closed inside rest none) = s
-
-    no_blank : (comment rest : List ℕ) → IsComment comment rest → begins is_blank comment ≡ false
-    no_blank _ _ (hash t) = refl
-    no_blank _ _ (slashes t) = refl
-    no_blank _ _ (closed inside rest none) = refl
 
     by : IsEnd text → begins test (behind is_blank text) ≡ false
     by (plain blank) = ap (λ t. begins test (behind is_blank t)) (sym (append-nil text)) ∙ ap (begins test) (behind-run is_blank text [] blank refl)

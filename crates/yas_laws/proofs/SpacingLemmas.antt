@@ -1,5 +1,6 @@
 -- Every reader of tokens gives the same result for a line and for the squeezed line.
 use Rattle.std.proofs.Common.{◌≡◌, ◌+◌, ap, sym, subst, ◌∙◌, ℕ, suc, Bool, true, false, cond, List, [], ◌∷◌, length, take, drop, Option, None, Some, refl, arith}
+use Rattle.std.proofs.Math.Seq.{drop-length}
 use Rattle.std.specs.Prelude.{nat_eq, not, ◌&&◌, ◌||◌, ◌==◌, codes, take_while, unwrap_or}
 use Rattle.std.specs.List.{list_all, starts_with, prefix_len}
 use Rattle.std.proofs.Math.Numerals.{one-add}
@@ -104,11 +105,7 @@ hash_ends byte bytes h = by (byte == 35) h
     by : (a : Bool) → a ≡ true
         → list_all is_blank (drop (cond (a || starts_with nat_eq (byte ∷ bytes) (codes "//")) (length (byte ∷ bytes))
         (cond (starts_with nat_eq (byte ∷ bytes) (codes "/*") && not (close_length (drop 2 (byte ∷ bytes)) == 0)) (2 + close_length (drop 2 (byte ∷ bytes))) 0)) (byte ∷ bytes)) ≡ true
-    by true h = ap (list_all is_blank) (nothing (byte ∷ bytes))
-      where
-        nothing : (xs : List ℕ) → drop (length xs) xs ≡ []
-        nothing [] = refl
-        nothing (x ∷ xs) = nothing xs
+    by true h = ap (list_all is_blank) (drop-length (byte ∷ bytes))
     by false h = absurd (false≢true h)
 
 -- squeezing a line, case by case
@@ -548,7 +545,7 @@ module _ (w : ℕ) (b : is_blank w ≡ false) (h : (w == 35) ≡ false) (s : (w 
   next_is-squeezed close bytes = ap (begins (λ b. b == w)) (after_blanks-squeezed close false bytes) ∙ sign_begins (behind is_blank bytes) (no_blank bytes)
 
 -- the end of a line
-ends_at-none : ends_at [] ≡ true
+pub ends_at-none : ends_at [] ≡ true
 unfolding comment_length
 ends_at-none = refl
 

@@ -2,7 +2,7 @@
 use Rattle.std.proofs.Common.{◌≡◌, ◌+◌, ◌<◌, ◌≤◌, ap, sym, ◌∙◌, ℕ, zero, suc, ◌-◌, Bool, true, false, cond, List, [], ◌∷◌, ◌++◌, length, drop, refl, arith}
 use Rattle.std.specs.Prelude.{nat_eq, not, ◌&&◌, ◌||◌, ◌==◌, codes}
 use Rattle.std.specs.List.{list_all, starts_with}
-use Rattle.std.proofs.lemmas.Bool.{false≢true, not-true, eqb-true, and_parts, and_right}
+use Rattle.std.proofs.lemmas.Bool.{false≢true, not-true, eqb-true, and_parts, and_right, or_right}
 use Rattle.std.proofs.lemmas.Bool.Decides.{nat_tests}
 use Rattle.yas_asm.specs.Comments.{close_length, comment_length, is_good, bad_outside}
 use Rattle.yas_asm.specs.Laws.{begins_no_comment, CloseIsFirst, SweepPassesComments}
@@ -44,11 +44,7 @@ first_bad (x ∷ before) after byte e bad =
     let two = and_parts (begins_no_comment x) (list_all begins_no_comment before) e in
     let here = and_parts (not (x == 35)) (not (x == 47)) two.0 in
     at_byte x (before ++ byte ∷ after) (no_comment x (before ++ byte ∷ after) (not-true (x == 35) here.0) (not-true (x == 47) here.1))
-    ∙ ap (λ rest. not (is_good x) || rest) (first_bad before after byte two.1 bad) ∙ by (not (is_good x))
-  where
-    by : (b : Bool) → (b || true) ≡ true
-    by true = refl
-    by false = refl
+    ∙ ap (λ rest. not (is_good x) || rest) (first_bad before after byte two.1 bad) ∙ or_right (not (is_good x)) true refl
 
 pub sweep_passes_comments : SweepPassesComments
 sweep_passes_comments = record {
