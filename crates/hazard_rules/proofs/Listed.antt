@@ -9,7 +9,7 @@ use Rattle.ctl_picks.specs.Picks.{IsInside}
 use Rattle.pipe_motion.specs.declared.settings.Settings.{Settings}
 use Rattle.ctl_rules.specs.declared.rules.Rule.{Rule}
 use Rattle.ctl_rules.proofs.Kept.{tells_less}
-use Rattle.ctl_rules.proofs.Lists.{pushed}
+use Rattle.ctl_rules.proofs.Lists.{pushed, below_or}
 use Rattle.pipe_obligations.specs.FileSettings.{ValuationTruth, picks_target}
 use Rattle.hazard_rules.specs.Parts.{IsRuleGate, AreRuleGates, ArePredictionGates}
 use Rattle.pipe_gates.specs.GateTruths.{IsTruthGate}
@@ -33,9 +33,6 @@ pub prediction_put : {old new : Gates} {ctl : List Entry} {atoms : List Atom} (v
     → ArePredictionGates v old ctl atoms back gates n → IsTruthGate new ctl atoms g (picks_target v atoms n back) → ArePredictionGates v new ctl atoms back (slice_set gates n g) (n + 1)
 prediction_put {old} {new} {ctl} {atoms} v back gates n g inside k i h last j lt = by_place (below_or j n lt)
   where
-    below_or : (k n : ℕ) → k < n + 1 → (k < n) ⊎ (k ≡ n)
-    below_or k n lt = grind arith
-
     apart : j < n → j ≡ n → ⊥
     apart lt e = omega (arith, lt, e)
 
