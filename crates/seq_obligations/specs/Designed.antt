@@ -16,35 +16,36 @@ use Rattle.seq_obligations.specs.Obligations.{demand_at, seq_signals}
 use Rattle.seq_obligations.specs.Rules.{AreDesignedRules, AreSeqRules}
 use Rattle.seq_obligations.specs.Signals.{IsSeqReady, places}
 
+-- what has the value `true` is so
+pub so : {b : Bool} → b ≡ true → IsTrue b
+so e = e
+
 -- the signals of SEQ's table have control values
 pub ready_by : (vars : ℕ) (ctl : List Entry) → bit_count ≤ vars → Covers seq_rows ctl → IsSeqReady vars ctl
 unfolding seq_rows constant_rows seq_state seq_hardware seq_defined control_rows
 ready_by vars ctl le c = record {
   shared = record {
     line = record { error = omega arith; icode = omega arith; four = refl; ifun = omega arith; r_a = omega arith; r_b = omega arith; cnd = omega arith; derror = omega arith };
-    icode = yes (c.picks seq_signals.icode);
-    ifun = yes (c.picks seq_signals.ifun);
-    need_regids = yes (c.gates seq_signals.need_regids);
-    need_val_c = yes (c.gates seq_signals.need_val_c);
-    src_a = yes (c.picks seq_signals.src_a);
-    src_b = yes (c.picks seq_signals.src_b);
-    dst_e = yes (c.picks seq_signals.dst_e);
-    dst_m = yes (c.picks seq_signals.dst_m);
-    alu_a = yes (c.picks seq_signals.alu_a);
-    alu_b = yes (c.picks seq_signals.alu_b);
-    alufun = yes (c.picks seq_signals.alufun);
-    set_cc = yes (c.gates seq_signals.set_cc);
-    mem_addr = yes (c.picks seq_signals.mem_addr);
-    mem_read = yes (c.gates seq_signals.mem_read);
-    mem_write = yes (c.gates seq_signals.mem_write);
-    mem_data = yes (c.picks seq_signals.mem_data);
-    stat = yes (c.picks seq_signals.stat);
+    icode = so (c.picks seq_signals.icode);
+    ifun = so (c.picks seq_signals.ifun);
+    need_regids = so (c.gates seq_signals.need_regids);
+    need_val_c = so (c.gates seq_signals.need_val_c);
+    src_a = so (c.picks seq_signals.src_a);
+    src_b = so (c.picks seq_signals.src_b);
+    dst_e = so (c.picks seq_signals.dst_e);
+    dst_m = so (c.picks seq_signals.dst_m);
+    alu_a = so (c.picks seq_signals.alu_a);
+    alu_b = so (c.picks seq_signals.alu_b);
+    alufun = so (c.picks seq_signals.alufun);
+    set_cc = so (c.gates seq_signals.set_cc);
+    mem_addr = so (c.picks seq_signals.mem_addr);
+    mem_read = so (c.gates seq_signals.mem_read);
+    mem_write = so (c.gates seq_signals.mem_write);
+    mem_data = so (c.picks seq_signals.mem_data);
+    stat = so (c.picks seq_signals.stat);
   };
-  new_pc = yes (c.picks signal.new_pc);
+  new_pc = so (c.picks signal.new_pc);
 }
-  where
-    yes : {b : Bool} → b ≡ true → IsTrue b
-    yes e = e
 
 -- each field of a signal is spelt at its place
 pub spelt_at_places : (w : List Bool) → Spells places w (number_of (fields_of w))

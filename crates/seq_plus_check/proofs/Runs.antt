@@ -1,5 +1,5 @@
 -- If a file meets the obligations, its runs are runs of instructions: the solved pc is the PC of the run.
-use Rattle.std.proofs.Common.{◌≡◌, ℕ, zero, suc, ◌<◌, ◌≤◌, inl, inr, Bool, true, false, not, ◌||◌, ◌==◌, cond, List, length, Option, Some, slice_get, refl, sym, ◌∙◌, ap, subst, arith}
+use Rattle.std.proofs.Common.{◌≡◌, ℕ, zero, suc, ◌<◌, ◌≤◌, inl, inr, Bool, true, false, ◌==◌, cond, List, length, Option, Some, slice_get, refl, sym, ◌∙◌, ap, subst, arith}
 use Rattle.std.proofs.lemmas.Bool.{eqb-true, lt-ltb, ne_eqb, eq-eqb, and_from}
 use Rattle.std.specs.List.{AllByRecursion}
 use Rattle.y86_base.specs.declared.parts.Variant.{Variant}
@@ -7,7 +7,7 @@ use Rattle.y86_base.specs.declared.parts.Variant.TheVariants.{Base, Full}
 use Rattle.y86_base.specs.Stat.{stat_of}
 use Rattle.y86_base.specs.declared.parts.Stat.{Stat}
 use Rattle.y86_base.specs.Words.{set}
-use Rattle.y86_base.proofs.Booleans.{implied}
+use Rattle.y86_base.proofs.Booleans.{implied, not_implied}
 use Rattle.y86_base.proofs.Numbers.{each_number}
 use Rattle.y86_isa.specs.Blocks.{next_address, reading}
 use Rattle.y86_isa.specs.Machine.{is_aok, start}
@@ -71,13 +71,8 @@ use Rattle.seq_plus_check.proofs.PlusRows.{hardware_rows}
 -- ---- the next PC of the previous instruction
 
 goes : (v : Variant) (n : ℕ) → 1 ≤ n → n < length (rows v) → is_itself (row v n).next ≡ false
-goes v n le lt = by _ _ (next_at v n lt) (no_zero n le)
+goes v n le lt = not_implied _ _ (next_at v n lt) (no_zero n le)
   where
-    by : (a b : Bool) → (not a || b) ≡ true → b ≡ false → a ≡ false
-    by true true h e = cc
-    by true false h e = cc
-    by false b h e = refl
-
     no_zero : (n : ℕ) → 1 ≤ n → (n == 0) ≡ false
     no_zero n le = ne_eqb n 0 (λ e. absurd (omega (arith, e, le)))
 

@@ -1,10 +1,11 @@
 -- The facts on which SEQ+'s rules depend.
-use Rattle.std.proofs.Common.{◌≡◌, ℕ, ◌+◌, ◌≤◌, IsTrue, Bool, true, List, refl, arith}
+use Rattle.std.proofs.Common.{ℕ, ◌+◌, ◌≤◌, Bool, List, refl, arith}
 use Rattle.dp_signals.specs.Tables.{constant_rows}
 use Rattle.dp_signals.specs.SequentialTables.{control_rows}
 use Rattle.ctl_picks.specs.declared.controls.Entry.{Entry}
 use Rattle.ctl_picks.specs.Picks.{Covers}
 use Rattle.ctl_given.specs.Places.{HavePlaces, Spells}
+use Rattle.seq_obligations.specs.Designed.{so}
 use Rattle.seq_obligations.specs.Fields.{plus_bit_count}
 use Rattle.seq_plus.specs.PlusNames as signal
 use Rattle.seq_plus.specs.PlusTable.{plus_rows, plus_state, plus_hardware, plus_defined}
@@ -18,30 +19,27 @@ unfolding plus_rows constant_rows plus_state plus_hardware plus_defined control_
 ready_by vars ctl le c = record {
   shared = record {
     line = record { error = omega arith; icode = omega arith; four = refl; ifun = omega arith; r_a = omega arith; r_b = omega arith; cnd = omega arith; derror = omega arith };
-    icode = yes (c.picks signals.icode);
-    ifun = yes (c.picks signals.ifun);
-    need_regids = yes (c.gates signals.need_regids);
-    need_val_c = yes (c.gates signals.need_val_c);
-    src_a = yes (c.picks signals.src_a);
-    src_b = yes (c.picks signals.src_b);
-    dst_e = yes (c.picks signals.dst_e);
-    dst_m = yes (c.picks signals.dst_m);
-    alu_a = yes (c.picks signals.alu_a);
-    alu_b = yes (c.picks signals.alu_b);
-    alufun = yes (c.picks signals.alufun);
-    set_cc = yes (c.gates signals.set_cc);
-    mem_addr = yes (c.picks signals.mem_addr);
-    mem_read = yes (c.gates signals.mem_read);
-    mem_write = yes (c.gates signals.mem_write);
-    mem_data = yes (c.picks signals.mem_data);
-    stat = yes (c.picks signals.stat);
+    icode = so (c.picks signals.icode);
+    ifun = so (c.picks signals.ifun);
+    need_regids = so (c.gates signals.need_regids);
+    need_val_c = so (c.gates signals.need_val_c);
+    src_a = so (c.picks signals.src_a);
+    src_b = so (c.picks signals.src_b);
+    dst_e = so (c.picks signals.dst_e);
+    dst_m = so (c.picks signals.dst_m);
+    alu_a = so (c.picks signals.alu_a);
+    alu_b = so (c.picks signals.alu_b);
+    alufun = so (c.picks signals.alufun);
+    set_cc = so (c.gates signals.set_cc);
+    mem_addr = so (c.picks signals.mem_addr);
+    mem_read = so (c.gates signals.mem_read);
+    mem_write = so (c.gates signals.mem_write);
+    mem_data = so (c.picks signals.mem_data);
+    stat = so (c.picks signals.stat);
   };
   code = omega arith;
-  pc = yes (c.picks signal.pc);
+  pc = so (c.picks signal.pc);
 }
-  where
-    yes : {b : Bool} → b ≡ true → IsTrue b
-    yes e = e
 
 -- each field of a signal is spelt at its place
 pub spelt_at_places : (w : List Bool) → Spells places w (number_of (fields_of w))
