@@ -101,7 +101,7 @@ before_near : (x : RunContext) (n i j : ℕ) → IsImage x.image → NearPure x.
 unfolding state_before
 before_near x n i j image pure lt le near aok = fetched_near x.v x.image n i j image pure lt le near aok
 
-at_most_one : (b : Bool) → count b ≤ 1
+pub at_most_one : (b : Bool) → count b ≤ 1
 at_most_one true = omega arith
 at_most_one false = omega arith
 

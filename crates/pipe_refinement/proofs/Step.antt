@@ -27,7 +27,7 @@ use Rattle.pipe_refinement.specs.Kinds.{Schedule, Bubbled, Good, StageKind, Wron
 use Rattle.pipe_motion.specs.Flow.{RegisterControls, StageFlow, Flow, follows_prediction, loads, path}
 use Rattle.pipe_refinement.proofs.After.{counted_are, flags_next_are, mem_is, records_are, regs_are}
 use Rattle.pipe_refinement.proofs.Empties.{allowed_loaded, allowed_moved, empty_d_bubble, empty_e_bubble, empty_e_loaded, empty_m_bubble, empty_m_loaded, empty_w_bubble, empty_w_loaded}
-use Rattle.pipe_refinement.proofs.Fetch.{LoadsFetched, fetch_live, fetch_same, fetch_words, loads_fetched}
+use Rattle.pipe_refinement.proofs.Fetch.{LoadsFetched, at_most_one, fetch_live, fetch_same, fetch_words, loads_fetched}
 use Rattle.pipe_refinement.proofs.Motions.{Motion, motion_of}
 use Rattle.pipe_refinement.proofs.Moves.{going, good_e, good_m, good_w, keeps_good, leaves_by, left_good, load_in_d, load_is, loads_e, loads_m, loads_w, moved_all, next_d, next_e, next_f, next_in_e, next_in_f, next_in_m, next_m, next_w, stay_in_d, stay_is}
 use Rattle.pipe_refinement.proofs.Predicted.{predicted_is}
@@ -168,12 +168,8 @@ module _ (x : RunContext) (n t : ℕ) (c : Schedule) (p : PipeState) (f : ℕ �
       by true w = subst (RunReaches x.v x.image) (sym (one c.w (in_w c) w)) (live_next x.v x.image (in_w c) (i.live (in_w c) (omega (arith, ap count w))) (run_on w))
       by false w = subst (RunReaches x.v x.image) (sym (none c.w (in_w c) w)) i.last_live
 
-  count_le : (z : Bool) → count z ≤ 1
-  count_le true = omega arith
-  count_le false = omega arith
-
   few' : in_f c' ≤ t + 1
-  few' = omega (arith, next_in_f k g c kept, count_le (loads k.d && is_good g), i.few)
+  few' = omega (arith, next_in_f k g c kept, at_most_one (loads k.d && is_good g), i.few)
 
   -- ---- bubbles, and wrong instructions
   empty_d' : c'.d ≡ Bubbled → IsBubbleD p'.d

@@ -37,6 +37,14 @@ three true false c h e = refl
 three false false true h e = cc
 three false false false h e = cc
 
+-- a conjunction of four
+pub and_four : (a b c d : Bool) → a && (b && (c && d)) ≡ true → (a ≡ true) × (b ≡ true) × (c ≡ true) × (d ≡ true)
+and_four true true true true h = (refl, refl, refl, refl)
+and_four false b c d h = cc
+and_four true false c d h = cc
+and_four true true false d h = cc
+and_four true true true false h = cc
+
 -- ---- what rides along
 
 pub live_good : (k : StageKind) → is_good k ≡ true → kind_is_live k ≡ true
@@ -152,13 +160,6 @@ module _ (x : RunContext) (t : ℕ) (c : Schedule) (p : PipeState) (f : ℕ → 
       read_after_step x.v x.image (in_m c) we.src_a image live_m (m_goes x c i.legal (or_right _ _ e) m) lt ∙ rw same refl in
       m_valM_is x t c p f rs image i b a.access me.address m ∙ sym after ∙ ap (λ j. register (state_before x.v x.image j).regs we.src_a) (sym (one c.m (in_m c) m)) ∙ sym (follows x.v x.image (in_e c)).val_a
 
-  free_by : (lf s g m : Bool) → lf && (s && (g && m)) ≡ true → (lf ≡ true) × (s ≡ true) × (g ≡ true) × (m ≡ true)
-  free_by true true true true h = (refl, refl, refl, refl)
-  free_by false s g m h = cc
-  free_by true false g m h = cc
-  free_by true true false m h = cc
-  free_by true true true false h = cc
-
   val_a_kept : needs_select_a re ≡ true → f name.e_valA ≡ select_a re we
   val_a_kept k = by (store_word_comes_late x.s x.v p (is_good c.m)) refl
     where
@@ -168,7 +169,7 @@ module _ (x : RunContext) (t : ℕ) (c : Schedule) (p : PipeState) (f : ℕ → 
 
       by : (q : Bool) → store_word_comes_late x.s x.v p (is_good c.m) ≡ q → f name.e_valA ≡ select_a re we
       by true q =
-          let z = free_by _ _ _ _ q in
+          let z = and_four _ _ _ _ q in
           let s : stores_val_a re.memory ≡ true = ap (λ r. stores_val_a r.memory) (sym row_e) ∙ z.1 in
           let no_p : select_a_is_val_p re ≡ false = (sources_agree x.v we.icode).one_carried (or_left _ _ s) in
           ex.val_a e (rw row_e k) ∙ ap (λ u. cond u (f name.m_valM) p.e.val_a) q ∙ loaded_now s z.2 (eqb-true _ _ z.3) ∙ sym (ap (λ u. cond u we.val_p we.val_a) no_p)

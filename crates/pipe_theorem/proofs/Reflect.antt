@@ -1,5 +1,6 @@
 -- From the obligations of a real cycle's valuation to equations on its values.
 use Rattle.std.proofs.Common.{◌≡◌, ◌≢◌, ℕ, ◌≤◌, Bool, true, false, not, ◌&&◌, ◌||◌, ◌==◌, cond, IfSome, refl, sym, ap, ◌∙◌, subst, arith}
+use Rattle.pipe_refinement.proofs.Words.{and_four}
 use Rattle.std.proofs.lemmas.Bool.{false≢true, and_from, eq-eqb, eqb-true, ne_eqb}
 use Rattle.y86_isa.specs.Blocks.{alu_function, data_address, is_load, is_store, operand_a, operand_b, register_number}
 use Rattle.y86_isa.specs.RowTests.{accesses, select_a_is_val_a, select_a_is_val_p, has_operand_a, has_operand_b, next_is_branch, stores_val_a}
@@ -346,18 +347,11 @@ module _ (x : RunContext) (c : Schedule) (p : PipeState) (f : ℕ → ℕ) (l : 
     unfolding fields_at
     memory_facts d = record { address = address_fact; stat = number_is name.m_stat _ (q 20 (omega arith) (omega arith)) ∙ ap (λ z. cond z 3 p.m.stat) (sym d) }
 
-    four : (a b d e : Bool) → a && (b && (d && e)) ≡ true → (a ≡ true) × (b ≡ true) × (d ≡ true) × (e ≡ true)
-    four true true true true h = (refl, refl, refl, refl)
-    four true true true false h = cc
-    four true true false e h = cc
-    four true false d e h = cc
-    four false b d e h = cc
-
     written : is_good c.w ≡ true → (is_number cv name.w_dstE p.w.dst_e ≡ true) × (is_number cv name.w_dstM p.w.dst_m ≡ true)
         × (picks_leaf cv name.w_valE (Name name.W_valE) ≡ true) × (picks_leaf cv name.w_valM (Name name.W_valM) ≡ true)
     unfolding fields_at run_flow
     written g =
-        four (is_number cv name.w_dstE p.w.dst_e) (is_number cv name.w_dstM p.w.dst_m) (picks_leaf cv name.w_valE (Name name.W_valE)) (picks_leaf cv name.w_valM (Name name.W_valM))
+        and_four (is_number cv name.w_dstE p.w.dst_e) (is_number cv name.w_dstM p.w.dst_m) (picks_leaf cv name.w_valE (Name name.W_valE)) (picks_leaf cv name.w_valM (Name name.W_valM))
         (implied (is_good c.w) _ (q 21 (omega arith) (omega arith)) g)
 
     pub write_facts : WriteFacts p f c
