@@ -31,7 +31,7 @@ fresh h v low high =
     let c : nat_le (2 * v) (greatest_literal h) ≡ true = grind (arith, nat_tests) in
     rw (a, b, c) refl
 
-half : (v : ℕ) → 2 * v / 2 ≡ v
+pub half : (v : ℕ) → 2 * v / 2 ≡ v
 half v = omega arith
 
 one_more : (v k : ℕ) → (nat_le v k || k + 1 == v) ≡ nat_le v (k + 1)

@@ -26,7 +26,7 @@ use Rattle.aiger_out.proofs.Decimal.{AreWords, and_free, and_read, decimal_free,
 use Rattle.aiger_out.proofs.Sections.{section_a, section_b, section_c, section_d, section_e, sections_free, sections_size}
 use Rattle.aiger_out.proofs.FromRows.{line_first}
 use Rattle.aiger_out.proofs.Each.{fed_append}
-use Rattle.aiger_out.proofs.Laid.{Laid, laid_fine}
+use Rattle.aiger_out.proofs.Laid.{Laid, laid_fine, half}
 use Rattle.aiger_out.proofs.OneAnswer.{no_fault}
 
 of_some : (h : Header) (lines : List (List ℕ)) (j : ℕ) (line : List ℕ) (r : AagLine) → slice_get lines j ≡ Some line → line_read h j line ≡ r → line_at h lines j ≡ r
@@ -220,18 +220,15 @@ module _ (net : Gates) (gates numbers : List ℕ) (h : Header) (literals outs : 
 
   -- ---- values
 
-  twice : (n : ℕ) → 2 * n / 2 ≡ n
-  twice n = omega arith
-
   solves : (bits : List Bool) (env : ℕ → Bool) → AreValues (line_at h (ended text)) bits env → IsGraphSolution net.vars bits ands env
   solves bits env v = record {
     constant = v.constant;
     inputs = λ k l.
         let m : IsMet bits env (1 + k) (Input (2 * (k + 1))) = subst (IsMet bits env (1 + k)) (laid_out.inputs k (omega (arith, l, hd.inputs))) (v.met (1 + k)) in
-        sym (ap env (twice (k + 1))) ∙ (m ∙ ap (λ (n : ℕ). get_or bits n false) (omega arith));
+        sym (ap env (half (k + 1))) ∙ (m ∙ ap (λ (n : ℕ). get_or bits n false) (omega arith));
     joins = λ k l.
         let m : IsMet bits env (ands_from h + k) (And (and_line_of h.inputs ands k)) = subst (IsMet bits env (ands_from h + k)) (laid_out.ands k (omega (arith, l, hd.ands))) (v.met (ands_from h + k)) in
-        sym (ap env (twice (h.inputs + (k + 1)) ∙ ap (λ (n : ℕ). n + (k + 1)) hd.inputs)) ∙ m;
+        sym (ap env (half (h.inputs + (k + 1)) ∙ ap (λ (n : ℕ). n + (k + 1)) hd.inputs)) ∙ m;
   }
 
   gate_by : (bits : List Bool) (env : ℕ → Bool) → AreValues (line_at h (ended text)) bits env → (g : ℕ) → (g < length literals) ⊎ (length literals ≤ g)

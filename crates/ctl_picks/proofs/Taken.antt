@@ -1,5 +1,7 @@
 -- Which leaves are taken once a pick is added.
 use Rattle.std.proofs.Common.{◌≡◌, Bool, true, false, ◌||◌, ◌&&◌, refl, sym, ap, ◌∙◌, List, [], ◌∷◌, ◌++◌, ℕ, zero, suc, ◌<◌, length, get_or, arith}
+use Rattle.std.proofs.Math.Bool.{or-false}
+use Rattle.std.proofs.lemmas.Bool.{or_right}
 use Rattle.std.proofs.Math.ListN.{set}
 use Rattle.ctl_atoms.specs.declared.leaf.Leaf.{Leaf}
 use Rattle.ctl_picks.specs.declared.controls.Pick.{Pick}
@@ -12,21 +14,9 @@ use Rattle.ctl_picks.proofs.Steps.{none, or_same, and_same}
 
 grown : (k g t m : Bool) → (k && (g || m)) || t ≡ ((k && g) || t) || (k && m)
 grown true true t m = refl
-grown true false t true = last t
-  where
-    last : (t : Bool) → true ≡ t || true
-    last true = refl
-    last false = refl
-grown true false t false = last t
-  where
-    last : (t : Bool) → t ≡ t || false
-    last true = refl
-    last false = refl
-grown false g t m = last t
-  where
-    last : (t : Bool) → t ≡ t || false
-    last true = refl
-    last false = refl
+grown true false t true = sym (or_right t true refl)
+grown true false t false = sym (or-false t)
+grown false g t m = sym (or-false t)
 
 assoc : (a x r : Bool) → a || (x || r) ≡ (a || x) || r
 assoc true x r = refl
@@ -60,11 +50,7 @@ within_push n [] q i h = (h, tt)
 within_push n (p ∷ ps) q i h = (i.0, within_push n ps q i.1 h)
 
 pub taken_push : (tr : ℕ → Bool) (ps : List Pick) (q : Pick) (y : Leaf) → leaf_taken tr (ps ++ q ∷ []) y ≡ leaf_taken tr ps y || (leaf_eq q.leaf y && tr q.gate)
-taken_push tr [] q y = last (leaf_eq q.leaf y && tr q.gate)
-  where
-    last : (t : Bool) → t || false ≡ t
-    last true = refl
-    last false = refl
+taken_push tr [] q y = or-false (leaf_eq q.leaf y && tr q.gate)
 taken_push tr (p ∷ ps) q y = or_same _ _ _ _ refl (taken_push tr ps q y) ∙ assoc (leaf_eq p.leaf y && tr p.gate) (leaf_taken tr ps y) (leaf_eq q.leaf y && tr q.gate)
 
 pub leaves_push : (ps : List Pick) (q : Pick) → leaves_of (ps ++ q ∷ []) ≡ leaves_of ps ++ q.leaf ∷ []

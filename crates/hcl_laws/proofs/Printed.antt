@@ -1,5 +1,6 @@
 -- The tokens of a printed file, and that a printed file is read again.
 use Rattle.std.proofs.Common.{◌≡◌, ◌<◌, ◌≤◌, ◌^◌, ap, sym, subst, ◌∙◌, ℕ, Bool, true, false, cond, List, [], ◌∷◌, ◌++◌, length, map, refl, nat_lt, append_assoc, codes, not-suc-le-zero, arith}
+use Rattle.std.proofs.lemmas.Bool.{false≢true}
 use Rattle.std.specs.Prelude.{◌==◌}
 use Rattle.std.specs.List.{list_all}
 use Rattle.std.proofs.lemmas.Bool.Decides.{nat_tests}
@@ -209,10 +210,7 @@ spells_number : (n : ℕ) → n < 2 ^ 64 → Spells (expr.Num n)
 spells_number n h = spells_as (expr.Num n) 4 _ _ (shown_Num n) (said_Num n) (signed_begins n h) (λ rest ends. signed_step n rest h ends)
 
 letter_first : (name : List ℕ) → begins is_letter name ≡ true → Starts name
-letter_first [] e = absurd (no e)
-  where
-    no : false ≡ true → ⊥
-    no e = cc
+letter_first [] e = absurd (false≢true e)
 letter_first (byte ∷ bytes) e = (byte, bytes, refl, no_sign byte e)
   where
     no_sign : (byte : ℕ) → is_letter byte ≡ true → (byte == 61) ≡ false

@@ -4,7 +4,7 @@ use Rattle.std.specs.Prelude.{nat_le, ◌==◌, ◌&&◌, ◌||◌, unwrap_or}
 use Rattle.std.specs.List.{list_all, starts_with}
 use Rattle.std.specs.Str.Parse.{digits_value}
 use Rattle.std.proofs.lemmas.Bool.Decides.{nat_tests}
-use Rattle.std.proofs.lemmas.Bool.{or_parts, and_parts}
+use Rattle.std.proofs.lemmas.Bool.{or_parts, and_parts, false≢true}
 use Rattle.y86_base.specs.declared.number.Number.{Number as Written}
 use Rattle.y86_base.specs.Text.{begins, behind, below_word, is_blank, is_decimal, is_letter, is_line_feed, is_name_byte}
 use Rattle.y86_base.specs.Keyword.{keyword_at}
@@ -129,10 +129,7 @@ letter_shows byte e = (grind (arith, nat_tests), grind (arith, nat_tests))
 -- a word that begins with a letter
 pub word_step : (name rest : List ℕ) → begins is_letter name ≡ true → list_all is_name_byte name ≡ true → Ends rest → tokens (name ++ rest) ≡ word name ∷ tokens rest
 unfolding token
-word_step [] rest e all ends = absurd (no e)
-  where
-    no : false ≡ true → ⊥
-    no e = cc
+word_step [] rest e all ends = absurd (false≢true e)
 word_step (byte ∷ bytes) rest e all ends =
     let shows = letter_shows byte e in
     step_to byte (bytes ++ rest) (word (byte ∷ bytes)) rest (kept byte (bytes ++ rest) shows.0 shows.1)

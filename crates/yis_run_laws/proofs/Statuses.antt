@@ -1,5 +1,7 @@
 -- The statuses with which instructions end, and their numbers.
 use Rattle.std.proofs.Common.{◌≡◌, ℕ, Bool, true, false, not, ◌||◌, ◌==◌, cond, List, refl, sym, ap, ◌∙◌}
+use Rattle.std.proofs.Math.Bool.{or-false}
+use Rattle.std.proofs.lemmas.Bool.{or_right}
 use Rattle.y86_base.specs.Stat.{stat_of, stat_number}
 use Rattle.y86_base.specs.declared.parts.Stat.{Stat}
 use Rattle.y86_base.specs.declared.parts.Stat.TheVariants.{Bub, Aok, Hlt, Adr, Ins, Pip, Bad}
@@ -59,16 +61,8 @@ stat_one Pip h = cc
 stat_one Bad h = cc
 
 stop_by : (fault : Bool) (s : Stat) → not (is_aok s) || fault ≡ not (is_aok (cond fault Adr s))
-stop_by true s = by (not (is_aok s))
-  where
-    by : (b : Bool) → b || true ≡ true
-    by true = refl
-    by false = refl
-stop_by false s = by (not (is_aok s))
-  where
-    by : (b : Bool) → b || false ≡ b
-    by true = refl
-    by false = refl
+stop_by true s = or_right (not (is_aok s)) true refl
+stop_by false s = or-false (not (is_aok s))
 
 -- an instruction stops the run at its fetch, or at memory
 pub stops_is : (v : Variant) (image : List ℕ) (i : ℕ) → not (stat_number (work_at v image i).fetch_stat == 1) || (work_at v image i).fault ≡ stops_at v image i
