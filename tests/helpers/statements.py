@@ -1,9 +1,13 @@
-"""Statements of lemmas that stand more than once in the crates' proofs. `python3 tests/helpers/statements.py` lists them."""
+"""Statements of lemmas that stand more than once in the crates. `python3 tests/helpers/statements.py` lists them.
+
+A lemma inside another one, or inside a module, counts if its statement names nothing but what it binds, and what the file defines or takes from elsewhere.
+"""
 import glob
 import os
 import re
 import sys
 from collections import defaultdict
+from types import MappingProxyType
 from typing import NamedTuple
 
 if __name__ == "__main__":
@@ -11,10 +15,13 @@ if __name__ == "__main__":
 
 from helpers.paths import TOP
 
-HEAD = re.compile(r"(?:pub )?(?!abbrev |module |record |data |use |mod )([^\s(){}.,:]+) : (.*)")
+HEAD = re.compile(r"( *)(?:pub )?(?!abbrev |module |record |data |use |mod )([^\s(){}.,:]+) : (.*)")
+PREDICATE = re.compile(r"(?:pub |abbrev |unfoldable |record |data )*(?:record|data|abbrev|unfoldable) (?:pub )?([^\s(){}.,:]+) ([({].*: |: .* → )Type 0(?: where)?")
+DEFINED = re.compile(r"(?:pub |abbrev |unfoldable |record |data )*([^\s(){}.,:]+) [({:]")
 WORD = re.compile(r"""\"[^"]*\"|[(){},]|[^\s(){},]+""")
-RELATIONS = {"≡", "≤", "<", "⊥", "IsTrue", "IsByte", "∈"}
+RELATIONS = {"≡", "≢", "≤", "<", "⊥", "IsTrue", "IsByte", "∈"}
 ENDS = {"≡", "→", "(", ")", "×", ","}
+WORDS = {"Type", "if", "then", "else", "let", "in", "λ"}
 LOOSE = {"→", "≡", "≤", "<", "×", "⊎", ":", ",", "λ", "if"}
 
 
@@ -27,29 +34,46 @@ class Place(NamedTuple):
     statement: str
 
 
-def imported(text):
+def imported(text, library=r"(?!std\.)"):
     """What the names mean that a file takes from the repository's own crates and not from the kit's `std`: the path of each."""
     found = {}
-    for path, tail in re.findall(r"^(?:pub )?use Rattle\.(?!std\.)([^\s{]*?)(?:\.\{(.*)\}| as \S+)?$", text, flags=re.M):
+    for path, tail in re.findall(rf"^(?:pub )?use Rattle\.({library}[^\s{{]*?)(?:\.\{{(.*)\}}| as \S+)?$", text, flags=re.M):
         for one in filter(None, tail.split(", ")):
             name, _, other = one.partition(" as ")
             found[other or name] = f"{path}.{name}"
     return found
 
 
+def module(path):
+    """The path of a file by which others take names from it."""
+    return path.removeprefix("crates/").removesuffix(".antt").replace("/", ".")
+
+
+def own(path, text):
+    """What the names mean that a file defines itself."""
+    return {found[1]: f"{module(path)}.{found[1]}" for found in map(DEFINED.match, text.split("\n")) if found}
+
+
+def predicates(path, text):
+    """The predicates that a file defines, each by its path."""
+    return {f"{module(path)}.{found[1]}" for found in map(PREDICATE.fullmatch, text.split("\n")) if found}
+
+
 def heads(text):
-    """The lemmas of a file: the line, the name and the statement of each."""
+    """The lemmas of a file: the line, the name and the statement of each, and whether it stands inside another one or a module."""
     lines = text.split("\n")
     for number, line in enumerate(lines, 1):
         found = HEAD.fullmatch(line)
         if not found:
             continue
-        parts = [found[2]]
+        parts = [found[3]]
         for more in lines[number:]:
-            if not more.startswith("    "):
+            if not more.startswith(found[1] + "    "):
                 break
             parts.append(more.strip())
-        yield number, found[1], " ".join(parts)
+        behind = [more for more in lines[number + len(parts) - 1 :][:2] if more.strip().partition(" ")[0] != "unfolding"]
+        if not found[1] or (behind and re.match(f"{found[1]}{re.escape(found[2])} ", behind[0])):
+            yield number, found[2], " ".join(parts), bool(found[1])
 
 
 class Variables:
@@ -173,20 +197,35 @@ def form(statement, meant):
     return re.sub(r"\$\d+", lambda found: f"${numbers.setdefault(found[0], len(numbers))}", text)
 
 
-def is_lemma(statement):
-    """Whether the statement says something, so that it isn't a function on data."""
-    return bool(RELATIONS & set(WORD.findall(statement.split(" → ")[-1])))
+def is_lemma(statement, meant=MappingProxyType({}), known=frozenset()):
+    """Whether the statement says something, so that it isn't a function on data: it ends in a relation, or in one of the known predicates."""
+    words = WORD.findall(statement.split(" → ")[-1])
+    return bool(RELATIONS & set(words)) or (bool(words) and meant.get(words[0]) in known)
+
+
+def is_closed(statement, meant):
+    """Whether the statement names nothing of the lemma or module around it."""
+    words = [word for word in spread(marked(statement, meant)) if re.match(r"[^\W\d]", word)]
+    return all(word.partition(".")[0] in WORDS or word in meant.values() or word.partition(".")[0] in meant for word in words)
+
+
+def files():
+    """The files of the crates' specs and proofs, and their texts."""
+    for path in sorted(it for part in ("specs", "proofs") for it in glob.glob(f"crates/*/{part}/**/*.antt", root_dir=TOP, recursive=True)):
+        with open(f"{TOP}/{path}", encoding="utf-8") as file:
+            yield path, file.read()
 
 
 def places():
-    """All lemmas of the crates' proofs by their statement."""
+    """All lemmas of the crates by their statement."""
     found = defaultdict(list)
-    for path in sorted(glob.glob("crates/*/proofs/**/*.antt", root_dir=TOP, recursive=True)):
-        with open(f"{TOP}/{path}", encoding="utf-8") as file:
-            text = file.read()
-        meant = imported(text)
-        for line, name, statement in heads(text):
-            if is_lemma(statement):
+    texts = dict(files())
+    known = {one for path, text in texts.items() for one in predicates(path, text)}
+    for path, text in texts.items():
+        meant = imported(text) | own(path, text)
+        taken = meant | imported(text, "std")
+        for line, name, statement, inside in heads(text):
+            if is_lemma(statement, meant, known) and not (inside and not is_closed(statement, taken)):
                 found[form(statement, meant)].append(Place(path, line, name, statement))
     return found
 
