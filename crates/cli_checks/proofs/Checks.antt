@@ -8,21 +8,21 @@ use Rattle.hcl_types.specs.declared.term.Term.{Term}
 use Rattle.y86_base.specs.declared.parts.Variant.{Variant}
 use Rattle.cli_checks.specs.Checks.{PipeChecks, SeqChecks}
 use Rattle.cli_checks.specs.Sequential.{IsDecided, no_text}
-use Rattle.cli_plans.specs.Datapaths.{rows_of}
+use Rattle.seq_plus.specs.Datapaths.{rows_of}
 use Rattle.cli_plans.specs.Plan.{Answer, done}
 use Rattle.cli_plans.specs.PlanFollowing.{RefusesWith, WritesAnswer, SinkState}
 use Rattle.cli_plans.proofs.Does.{refused_says, says_more}
-use Rattle.cli_plans.specs.declared.datapath.Datapath.{Datapath}
+use Rattle.hcl_types.specs.declared.table.SequentialDatapath.{SequentialDatapath}
 use Rattle.cli_checks.specs.declared.sequential.SeqRejection.{SeqRejection}
 use Rattle.cli_plans.specs.declared.stop_reason.StopReason as code
 use Rattle.cli_verdicts.specs.Verdicts.{AnswersNoPipe, AnswersYesPipe, RefusesControl, RefusesPipe}
 use Rattle.cli_verdicts.proofs.Verdicts.{said_denied}
 
 -- the verdicts
-accepted : (which : Datapath) (name : List ℕ) (v : Variant) (terms : List Term) (a : Answer) → IsDecided which v terms None → a ≡ done 0 (codes "yes\n") → SeqChecks which name v terms a
+accepted : (which : SequentialDatapath) (name : List ℕ) (v : Variant) (terms : List Term) (a : Answer) → IsDecided which v terms None → a ≡ done 0 (codes "yes\n") → SeqChecks which name v terms a
 accepted which name v terms a holds told = inl (record { accepted = holds.0; refines = holds.1; told = told })
 
-denied : (which : Datapath) (name : List ℕ) (v : Variant) (terms : List Term) (ids : List ℕ) (denial : SeqRejection) (text : List ℕ) (a : Answer) → IsOrderOf (rows_of which) terms ids →
+denied : (which : SequentialDatapath) (name : List ℕ) (v : Variant) (terms : List Term) (ids : List ℕ) (denial : SeqRejection) (text : List ℕ) (a : Answer) → IsOrderOf (rows_of which) terms ids →
     IsDecided which v terms (Some denial) → text ≡ no_text which denial.rule denial.valuation.bits denial.atoms → a ≡ done 1 text → SeqChecks which name v terms a
 denied which name v terms ids denial text a order found said told =
     let same : denial.atoms ≡ found.0.atoms = atoms_one (rows_of which) terms ids denial.atoms found.0.atoms order found.1 found.0.are in
@@ -34,19 +34,19 @@ denied which name v terms ids denial text a order found said told =
     }))
 
 -- and as what was written
-pub said_yes : (which : Datapath) (name : List ℕ) (v : Variant) (terms : List Term) (text : List ℕ) (old new : SinkState) (result : Result ℕ code.StopReason) → IsDecided which v terms None →
+pub said_yes : (which : SequentialDatapath) (name : List ℕ) (v : Variant) (terms : List Term) (text : List ℕ) (old new : SinkState) (result : Result ℕ code.StopReason) → IsDecided which v terms None →
     text ≡ codes "yes\n" →
     WritesAnswer (λ a. a ≡ done 0 text) old new result → WritesAnswer (SeqChecks which name v terms) old new result
 said_yes which name v terms text old new result holds same s =
     says_more (λ a. a ≡ done 0 text) (SeqChecks which name v terms) old new result (λ a told. accepted which name v terms a holds (told ∙ ap (done 0) same)) s
 
-pub said_no : (which : Datapath) (name : List ℕ) (v : Variant) (terms : List Term) (ids : List ℕ) (denial : SeqRejection) (text : List ℕ) (old new : SinkState) (result : Result ℕ code.StopReason) →
+pub said_no : (which : SequentialDatapath) (name : List ℕ) (v : Variant) (terms : List Term) (ids : List ℕ) (denial : SeqRejection) (text : List ℕ) (old new : SinkState) (result : Result ℕ code.StopReason) →
     IsOrderOf (rows_of which) terms ids → IsDecided which v terms (Some denial) → text ≡ no_text which denial.rule denial.valuation.bits denial.atoms →
     WritesAnswer (λ a. a ≡ done 1 text) old new result → WritesAnswer (SeqChecks which name v terms) old new result
 said_no which name v terms ids denial text old new result order found told s =
     says_more (λ a. a ≡ done 1 text) (SeqChecks which name v terms) old new result (λ a is. denied which name v terms ids denial text a order found told is) s
 
-pub said_refusal : (which : Datapath) (name : List ℕ) (v : Variant) (terms : List Term) (seen : SinkState) (stop : code.StopReason) →
+pub said_refusal : (which : SequentialDatapath) (name : List ℕ) (v : Variant) (terms : List Term) (seen : SinkState) (stop : code.StopReason) →
     RefusesWith (RefusesControl name (rows_of which) terms) stop → WritesAnswer (SeqChecks which name v terms) seen seen (Err stop)
 said_refusal which name v terms seen stop refuses =
     refused_says (SeqChecks which name v terms) (RefusesControl name (rows_of which) terms) seen stop (λ a is. inr (inr is)) refuses

@@ -15,32 +15,32 @@ use Rattle.seq_refinement.specs.Accepted.{RefinesSeq}
 use Rattle.verdict_text.specs.SeqLine.{plus_no, seq_no}
 use Rattle.ctl_verdicts.specs.ObligationSet.{IsLeastFalseOf, ObligationSet}
 use Rattle.y86_base.specs.declared.parts.Variant.{Variant}
-use Rattle.cli_plans.specs.declared.datapath.Datapath.{Datapath}
-use Rattle.cli_plans.specs.declared.datapath.Datapath.TheVariants.{Seq, Plus}
+use Rattle.hcl_types.specs.declared.table.SequentialDatapath.{SequentialDatapath}
+use Rattle.hcl_types.specs.declared.table.SequentialDatapath.TheVariants.{Seq, SeqPlus}
 use Rattle.cli_checks.specs.declared.sequential.SeqRejection.{SeqRejection}
-use Rattle.cli_plans.specs.Datapaths.{rows_of}
+use Rattle.seq_plus.specs.Datapaths.{rows_of}
 
-abbrev pub questions_of : Datapath → Variant → ObligationSet
+abbrev pub questions_of : SequentialDatapath → Variant → ObligationSet
 questions_of Seq v = seq_questions v
-questions_of Plus v = plus_questions v
+questions_of SeqPlus v = plus_questions v
 
 -- the design has control values, and satisfies every obligation
-abbrev pub Accepts : Datapath → Variant → List Term → Type 0
+abbrev pub Accepts : SequentialDatapath → Variant → List Term → Type 0
 Accepts Seq v terms = AcceptsSeq v terms
-Accepts Plus v terms = AcceptsPlus v terms
+Accepts SeqPlus v terms = AcceptsPlus v terms
 
 -- on every image and for every number of cycles, its machine is that of the run of instructions
-abbrev pub RefinesRun : Datapath → Variant → List Term → Type 0
+abbrev pub RefinesRun : SequentialDatapath → Variant → List Term → Type 0
 RefinesRun Seq v terms = RefinesSeq v terms
-RefinesRun Plus v terms = RefinesPlus v terms
+RefinesRun SeqPlus v terms = RefinesPlus v terms
 
 -- some obligation is false at some valuation: the first such obligation, and the least such valuation
-pub record Rejects (which : Datapath) (v : Variant) (terms : List Term) (rule : ℕ) (w : List Bool) : Type 0 where
+pub record Rejects (which : SequentialDatapath) (v : Variant) (terms : List Term) (rule : ℕ) (w : List Bool) : Type 0 where
   pub atoms : List Atom
   pub are : AreAtoms (rows_of which) terms atoms
   pub least : IsLeastFalseOf (questions_of which v) terms atoms rule w
 
-abbrev pub IsDecided : Datapath → Variant → List Term → Option SeqRejection → Type 0
+abbrev pub IsDecided : SequentialDatapath → Variant → List Term → Option SeqRejection → Type 0
 IsDecided which v terms None = Accepts which v terms × RefinesRun which v terms
 IsDecided which v terms (Some d) = Rejects which v terms d.rule d.valuation.bits × AreAtoms (rows_of which) terms d.atoms
 
@@ -48,6 +48,6 @@ IsDecided which v terms (Some d) = Rejects which v terms d.rule d.valuation.bits
 abbrev plus_text : List (List ℕ) → ℕ → Fields → List Bool → List Atom → List ℕ
 plus_text names rule c w atoms = plus_no names rule c.icode c.cnd c.line w atoms
 
-abbrev pub no_text : Datapath → ℕ → List Bool → List Atom → List ℕ
+abbrev pub no_text : SequentialDatapath → ℕ → List Bool → List Atom → List ℕ
 no_text Seq rule w atoms = seq_no (row_names seq_rows) rule w atoms
-no_text Plus rule w atoms = plus_text (row_names plus_rows) rule (fields_of w) w atoms
+no_text SeqPlus rule w atoms = plus_text (row_names plus_rows) rule (fields_of w) w atoms

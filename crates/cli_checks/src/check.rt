@@ -4,14 +4,14 @@ ghost use Rattle.dp_signals.specs.PipeTable.{pipe_rows};
 ghost use Rattle.hcl_types.specs.Tables.{IsBoundDesign};
 ghost use Rattle.cli_checks.specs.Answers.{check_pipe_plan, check_seq_plan};
 ghost use Rattle.cli_checks.specs.Checks.{PipeChecks, SeqChecks};
-ghost use Rattle.cli_plans.specs.Datapaths.{rows_of};
+ghost use Rattle.seq_plus.specs.Datapaths.{rows_of};
 ghost use Rattle.cli_plans.specs.PlanFollowing.{FollowsPlanOver, WritesAnswerOn};
 
 use crate::sequential::{decided, seq_text};
-use cli_plans::{Datapath, StopReason, pipe_file, seq_file, write_answer};
+use cli_plans::{StopReason, pipe_file, seq_file, write_answer};
 use cli_verdicts::{PipeVerdictText, control_stop, pipe_verdict};
 use control_check::CheckFault;
-use hcl_types::BoundDesign;
+use hcl_types::{BoundDesign, SequentialDatapath};
 use std::alloc::Global;
 use wb_io::{Files, Sink};
 use y86_base::Variant;
@@ -20,7 +20,7 @@ use y86_base::Variant;
 #[tactic(auto, using(crate::proofs::Checks::said_yes, crate::proofs::Checks::said_no, crate::proofs::Checks::said_refusal))]
 fn say_seq<'a, O: Sink>(
     alloc: Global,
-    which: Datapath,
+    which: SequentialDatapath,
     name: &'a str,
     variant: Variant,
     bound: &BoundDesign,
@@ -44,7 +44,7 @@ fn say_seq<'a, O: Sink>(
 /// every program.
 pub fn check_seq_file<'a, F: Files, O: Sink>(
     alloc: Global,
-    which: Datapath,
+    which: SequentialDatapath,
     name: &'a str,
     variant: Variant,
     files: &mut F,

@@ -5,14 +5,14 @@ ghost use Rattle.hcl_types.specs.Tables.{IsBoundDesign};
 ghost use Rattle.seq_plus.specs.PlusTable.{plus_rows};
 ghost use Rattle.ctl_verdicts.specs.ObligationSet.{IsFault};
 ghost use Rattle.cli_checks.specs.Sequential.{IsDecided, no_text};
-ghost use Rattle.cli_plans.specs.Datapaths.{rows_of};
-ghost use Rattle.cli_plans.specs.declared.datapath.Datapath.TheVariants.{Plus as OnPlus, Seq as OnSeq};
+ghost use Rattle.seq_plus.specs.Datapaths.{rows_of};
+ghost use Rattle.hcl_types.specs.declared.table.SequentialDatapath.TheVariants.{Seq as OnSeq, SeqPlus as OnPlus};
 ghost use Rattle.cli_plans.specs.declared.stop_reason.StopReason.TheVariants.{Memory as WantOfMemory};
 
-use cli_plans::{Datapath, StopReason};
+use cli_plans::StopReason;
 use control_check::{CheckFault, Verdict, check_seq};
 use ctl_atoms::Atom;
-use hcl_types::{BoundDesign, Row};
+use hcl_types::{BoundDesign, Row, SequentialDatapath};
 use nets::Valuation;
 use seq_plus_check::{Plain16, check_plus};
 use std::alloc::Global;
@@ -85,7 +85,7 @@ fn decide_plus(
 /// The verdict on a design: `None` if it is accepted.
 pub fn decided(
     alloc: Global,
-    which: Datapath,
+    which: SequentialDatapath,
     variant: Variant,
     bound: &BoundDesign,
 ) -> Result<Option<SeqRejection>, CheckFault>
@@ -94,8 +94,8 @@ pub fn decided(
     ensures fault { IfErr result (IsFault (rows_of which) bound.now.ordered.design.terms) }
 {
     match which {
-        Datapath::Seq => decide_seq(alloc, variant, bound),
-        Datapath::Plus => decide_plus(alloc, variant, bound),
+        SequentialDatapath::Seq => decide_seq(alloc, variant, bound),
+        SequentialDatapath::SeqPlus => decide_plus(alloc, variant, bound),
     }
 }
 
@@ -103,7 +103,7 @@ pub fn decided(
 #[tactic(auto, unfolding(seq_plus_check::specs::Fields::fields_of, seq_obligations::specs::Fields::line_at))]
 fn refusal(
     alloc: Global,
-    which: Datapath,
+    which: SequentialDatapath,
     rows: &[Row],
     rule: u32,
     valuation: &Valuation,
@@ -114,15 +114,15 @@ fn refusal(
     ensures { IfOk result (λ text. text.items ≡ no_text which rule valuation.now.bits list.now) }
 {
     match which {
-        Datapath::Seq => seq_refusal(alloc, rows, rule, valuation, list),
-        Datapath::Plus => plus_refusal(alloc, rows, rule, valuation, list),
+        SequentialDatapath::Seq => seq_refusal(alloc, rows, rule, valuation, list),
+        SequentialDatapath::SeqPlus => plus_refusal(alloc, rows, rule, valuation, list),
     }
 }
 
 /// The text of a `no` for a design.
 pub fn seq_text<'a>(
     alloc: Global,
-    which: Datapath,
+    which: SequentialDatapath,
     bound: &BoundDesign,
     denial: &SeqRejection,
 ) -> Result<Vec<u8>, StopReason<'a>>

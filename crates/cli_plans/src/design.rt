@@ -1,25 +1,23 @@
 //! The design stage: reads an HCL text, binds it over a table, and finds an order of its signals; and names of rows for
 //! messages.
-ghost use Rattle.std.specs.Prelude.{◌≡◌, ◌≢◌, ◌++◌, ◌∷◌, [], Err, List, ℕ, IfOk, OnErr, OnOk, map};
+ghost use Rattle.std.specs.Prelude.{◌≡◌, ◌≢◌, ◌++◌, ◌∷◌, [], List, ℕ, IfOk, OnOk, map};
 ghost use Rattle.dp_signals.specs.PipeTable.{pipe_rows};
 ghost use Rattle.hcl_types.specs.Tables.{IsBoundDesign, IsSound, row_names};
 ghost use Rattle.hcl_binding.specs.declared.fault.BindWhy.TheVariants.{Memory as OutOfMemory};
 ghost use Rattle.cli_plans.specs.Stages.{hcl_limit};
-ghost use Rattle.cli_plans.specs.Datapaths.{rows_of};
+ghost use Rattle.seq_plus.specs.Datapaths.{rows_of};
 ghost use Rattle.cli_plans.specs.Designs.{IsDesign, RefusesDesign};
 ghost use Rattle.cli_plans.specs.PlanFollowing.{IsStageResultIn, IsReadResultIn, RefusesWith, files_state};
 ghost use Rattle.cli_plans.specs.Lines as text;
 ghost use Rattle.cli_plans.specs.Plan.{refused};
-ghost use Rattle.cli_plans.specs.declared.stop_reason.StopReason.TheVariants.{Memory as WantOfMemory};
 
-use crate::datapath::Datapath;
 use crate::stages::{HCL_LIMIT, read_file, read_hcl};
 use crate::stop_reason::{InputFault, StopReason};
-use dp_signals::{law_of_tables, pipe_table, seq_table};
+use dp_signals::{law_of_tables, pipe_table};
 use hcl_binding::{BindFault, BindWhy, bind};
 use hcl_order::{OrderFault, order};
-use hcl_types::{BoundDesign, OrderedDesign, Row, Table};
-use seq_plus::{law_of_table, plus_table};
+use hcl_types::{BoundDesign, OrderedDesign, Row, SequentialDatapath, Table};
+use seq_plus::table_of;
 use std::alloc::{AllocError, Global};
 use wb_io::Files;
 
@@ -145,38 +143,19 @@ pub fn ordered_design<'a>(
     }
 }
 
-/// The table of a sequential datapath.
-fn table_of<'a>(alloc: Global, which: Datapath) -> Result<Table, StopReason<'a>>
-    ensures rows { IfOk result (λ table. table.rows ≡ rows_of which) }
-    ensures sound { IfOk result (λ table. IsSound table.rows) }
-    ensures memory { OnErr result (result ≡ Err WantOfMemory) }
-{
-    law_of_tables();
-    law_of_table();
-    let table = match which {
-        Datapath::Seq => seq_table(alloc),
-        Datapath::Plus => plus_table(alloc),
-    };
-    match table {
-        Ok(table) => Ok(table),
-        Err(_) => Err(StopReason::Memory),
-    }
-}
-
 /// The design of an HCL text over the table of a sequential datapath, with an order of its signals. `name` is the
 /// file's name, for messages.
 pub fn seq_design<'a>(
     alloc: Global,
-    which: Datapath,
+    which: SequentialDatapath,
     name: &'a str,
     source: &[u8],
 ) -> Result<BoundDesign, StopReason<'a>>
     ensures design { IsStageResultIn (IsDesign (rows_of which) source.now) (RefusesDesign name.now (rows_of which) source.now) (λ bound. bound.ordered.design.terms) result }
     ensures ordered { IfOk result (IsBoundDesign (rows_of which)) }
 {
-    let table = match table_of(alloc, which) {
-        Ok(table) => table,
-        Err(stop) => return Err(stop),
+    let Ok(table) = table_of(alloc, which) else {
+        return Err(StopReason::Memory);
     };
     ordered_design(alloc, name, source, table)
 }
@@ -200,7 +179,7 @@ pub fn pipe_design<'a>(
 /// The design of an HCL file over the table of a sequential datapath, with the table and an order of its signals.
 pub fn seq_file<'a, F: Files>(
     alloc: Global,
-    which: Datapath,
+    which: SequentialDatapath,
     name: &'a str,
     files: &mut F,
 ) -> Result<BoundDesign, StopReason<'a>>

@@ -3,14 +3,12 @@
 #![tactic(auto)]
 
 mod calls;
-mod datapath;
 mod design;
 mod output;
 mod stages;
 mod stop_reason;
 
 pub use crate::calls::{Status, report_stop, unreadable, words_behind};
-pub use crate::datapath::Datapath;
 pub use crate::design::{all_names, pipe_design, pipe_file, seq_file};
 pub use crate::output::write_answer;
 pub use crate::stages::{FILE_LIMIT, HCL_LIMIT, load_image, read_file, read_hcl, status};

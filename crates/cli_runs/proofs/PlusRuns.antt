@@ -15,7 +15,7 @@ use Rattle.cli_plans.specs.Stages.{run_status}
 use Rattle.cli_plans.specs.Datapaths.{IsMachineRun}
 use Rattle.cli_plans.specs.PlanFollowing.{SinkState, WrotePart, WroteWhole}
 use Rattle.cli_plans.specs.Plan.{done}
-use Rattle.cli_plans.specs.declared.datapath.Datapath.TheVariants as datapath
+use Rattle.hcl_types.specs.declared.table.SequentialDatapath.TheVariants as datapath
 
 from_start : (m p q : PlusMachine) (k : ℕ) (records : List Rec) → m ≡ p → PlusCalls m k q records → PlusCalls p k q records
 from_start m p q k records same calls = subst (λ x. PlusCalls x k q records) same calls
@@ -35,7 +35,7 @@ texts_same image first last records steps copied counted_is = ap (λ x. report x
 
 -- calls on a new machine, and its end, are a run
 runs : (v : Variant) (terms : List Term) (order image : List ℕ) (k : ℕ) (m q : PlusMachine) (records : List Rec) (last : Machine) → m ≡ started v terms order image →
-    PlusCalls m k q records → PlusEndIs q.variant q.terms q.state last → IsMachineRun datapath.Plus v terms image k last records
+    PlusCalls m k q records → PlusEndIs q.variant q.terms q.state last → IsMachineRun datapath.SeqPlus v terms image k last records
 runs v terms order image k m q records last begun calls ends =
     let is = calls_are_the_run v terms order image k q records (from_start m _ q k records begun calls) in
     (q.state, is.run, subst (λ x. PlusEndIs x terms q.state last) is.same_variant (subst (λ x. PlusEndIs q.variant x q.state last) is.same_terms ends))
@@ -43,7 +43,7 @@ runs v terms order image k m q records last begun calls ends =
 pub plus_whole : (v : Variant) (terms : List Term) (order image : List ℕ) (k : ℕ) (m q : PlusMachine) (records : List Rec) (first : List ℕ) (last : Machine)
     (steps status : ℕ) (before after : SinkState) → first ≡ image → m ≡ started v terms order image → PlusCalls m k q records → length records ≡ steps →
     PlusEndIs q.variant q.terms q.state last → status ≡ run_status last.stat → status ≤ 1 → Appended before.taken after.taken (report first last steps) →
-    after.faults ≡ before.faults → WroteWhole (SeqAnswers datapath.Plus v terms k image) before after status
+    after.faults ≡ before.faults → WroteWhole (SeqAnswers datapath.SeqPlus v terms k image) before after status
 plus_whole v terms order image k m q records first last steps status before after copied begun calls counted_is ends is low went no_fault = record {
   answer = done (run_status last.stat) (report image last (length records));
   allowed = (last, records, runs v terms order image k m q records last begun calls ends, refl);
@@ -57,7 +57,7 @@ plus_whole v terms order image k m q records first last steps status before afte
 pub plus_part : (v : Variant) (terms : List Term) (order image : List ℕ) (k : ℕ) (m q : PlusMachine) (records : List Rec) (first : List ℕ) (last : Machine)
     (steps : ℕ) (before after : SinkState) → first ≡ image → m ≡ started v terms order image → PlusCalls m k q records → length records ≡ steps →
     PlusEndIs q.variant q.terms q.state last → AppendedPrefix before.taken after.taken (report first last steps) → after.faults ≡ counted before.faults →
-    WrotePart (SeqAnswers datapath.Plus v terms k image) before after
+    WrotePart (SeqAnswers datapath.SeqPlus v terms k image) before after
 plus_part v terms order image k m q records first last steps before after copied begun calls counted_is ends went one_fault = record {
   answer = done (run_status last.stat) (report image last (length records));
   allowed = (last, records, runs v terms order image k m q records last begun calls ends, refl);

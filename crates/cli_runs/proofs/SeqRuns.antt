@@ -13,7 +13,7 @@ use Rattle.cli_runs.specs.Answers.{SeqAnswers}
 use Rattle.cli_plans.specs.Stages.{run_status}
 use Rattle.cli_plans.specs.PlanFollowing.{SinkState, WrotePart, WroteWhole}
 use Rattle.cli_plans.specs.Plan.{done}
-use Rattle.cli_plans.specs.declared.datapath.Datapath.TheVariants as datapath
+use Rattle.hcl_types.specs.declared.table.SequentialDatapath.TheVariants as datapath
 use Rattle.cli_runs.proofs.Runs.{seq_ran, seq_size}
 
 from_start : (m p q : SeqMachine) (k : ℕ) (records : List Rec) → m ≡ p → SeqCalls m k q records → SeqCalls p k q records

@@ -17,12 +17,13 @@ use Rattle.yo_object.specs.ObjectText.{object_of}
 use Rattle.yo_object.specs.Printed.{printed}
 use Rattle.cli_runs.specs.Big.{BigAnswers}
 use Rattle.cli_verdicts.specs.Verdicts.{AnswersYesPipe, RefusesPipe}
-use Rattle.cli_plans.specs.Datapaths.{IsMachineRun, rows_of}
+use Rattle.cli_plans.specs.Datapaths.{IsMachineRun}
+use Rattle.seq_plus.specs.Datapaths.{rows_of}
 use Rattle.cli_plans.specs.Designs.{IsDesign, RefusesDesign, RefusesHcl}
 use Rattle.cli_plans.specs.Lines.{assembly_fault_line}
 use Rattle.cli_runs.specs.PipeRuns.{RunsTo, run_text}
 use Rattle.cli_plans.specs.Plan.{Answer, Plan, value_from, answers, done, value_in, reads, refused, answer_in}
-use Rattle.cli_plans.specs.declared.datapath.Datapath.{Datapath}
+use Rattle.hcl_types.specs.declared.table.SequentialDatapath.{SequentialDatapath}
 use Rattle.cli_plans.specs.Stages.{file_limit, hcl_limit, image_of_text, run_status}
 
 -- the object text of a source, or the refusal of a source with a fault
@@ -36,7 +37,7 @@ yis_run v image limit =
     done (run_status (run v image limit).stat) (report image (run v image limit) (length (records v image limit)))
 
 -- the answers to the run of an image on a sequential datapath under a design: the steps of the report are its records
-abbrev pub SeqAnswers : Datapath → Variant → List Term → ℕ → List ℕ → Answer → Type 0
+abbrev pub SeqAnswers : SequentialDatapath → Variant → List Term → ℕ → List ℕ → Answer → Type 0
 SeqAnswers which v terms limit image a =
     (end : Machine) × (records : List Rec) × IsMachineRun which v terms image limit end records × (a ≡ done (run_status end.stat) (report image end (length records)))
 
@@ -59,11 +60,11 @@ unfoldable pub hcl_plan : List ℕ → Plan
 hcl_plan name = reads name hcl_limit (λ text. value_in (ReadsAs text) (RefusesHcl name text) (λ file. answers (done 0 (hcl_text.printed file.items))))
 
 -- the run of an object file on a sequential datapath under a design
-unfoldable pub seq_plan : Datapath → List Term → List ℕ → ℕ → ℕ → Variant → Plan
+unfoldable pub seq_plan : SequentialDatapath → List Term → List ℕ → ℕ → ℕ → Variant → Plan
 seq_plan which terms object size limit v =
     reads object file_limit (λ bytes. value_from (image_of_text object (object_of bytes size)) (λ image. answer_in (SeqAnswers which v terms limit image)))
 
-unfoldable pub ssim_plan : Datapath → List ℕ → List ℕ → ℕ → ℕ → Variant → Plan
+unfoldable pub ssim_plan : SequentialDatapath → List ℕ → List ℕ → ℕ → ℕ → Variant → Plan
 ssim_plan which name object size limit v =
     reads name hcl_limit (λ text. value_in (IsDesign (rows_of which) text) (RefusesDesign name (rows_of which) text) (λ terms. seq_plan which terms object size limit v))
 

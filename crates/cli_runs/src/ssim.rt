@@ -5,15 +5,15 @@ ghost use Rattle.hcl_types.specs.Tables.{IsBoundDesign};
 ghost use Rattle.seq_plus.specs.PlusTable.{plus_rows};
 ghost use Rattle.y86_base.specs.Image.{IsSize};
 ghost use Rattle.cli_runs.specs.Answers.{SeqAnswers, seq_plan, ssim_plan};
-ghost use Rattle.cli_plans.specs.Datapaths.{rows_of};
+ghost use Rattle.seq_plus.specs.Datapaths.{rows_of};
 ghost use Rattle.cli_plans.specs.PlanFollowing.{FollowsPlanOver, WritesAnswerOn};
-ghost use Rattle.cli_plans.specs.declared.datapath.Datapath.TheVariants.{Plus as OnPlus, Seq as OnSeq};
+ghost use Rattle.hcl_types.specs.declared.table.SequentialDatapath.TheVariants.{Seq as OnSeq, SeqPlus as OnPlus};
 
 use crate::request::RunRequest;
-use cli_plans::{Datapath, FILE_LIMIT, StopReason, load_image, read_file, seq_file, status};
+use cli_plans::{FILE_LIMIT, StopReason, load_image, read_file, seq_file, status};
 use dp_signals::constant_words;
 use hcl_compile::compile;
-use hcl_types::BoundDesign;
+use hcl_types::{BoundDesign, SequentialDatapath};
 use seq_path::Seq;
 use seq_plus::Plus;
 use std::alloc::Global;
@@ -84,7 +84,7 @@ fn run_plus<'a, O: Sink>(
 /// Runs an image on a sequential datapath and writes the report.
 fn run_image<'a, O: Sink>(
     alloc: Global,
-    which: Datapath,
+    which: SequentialDatapath,
     request: RunRequest<'_>,
     bound: BoundDesign,
     image: Image,
@@ -94,15 +94,29 @@ fn run_image<'a, O: Sink>(
     ensures { WritesAnswerOn O.taken O.faults (SeqAnswers which request.entry.variant bound.ordered.design.terms request.entry.limit image) out.old out.new result }
 {
     match which {
-        Datapath::Seq => run_seq(alloc, request.variant, bound, image, request.limit, out),
-        Datapath::Plus => run_plus(alloc, request.variant, bound, image, request.limit, out),
+        SequentialDatapath::Seq => run_seq(
+            alloc,
+            request.variant,
+            bound,
+            image,
+            request.limit,
+            out,
+        ),
+        SequentialDatapath::SeqPlus => run_plus(
+            alloc,
+            request.variant,
+            bound,
+            image,
+            request.limit,
+            out,
+        ),
     }
 }
 
 /// Reads an object file and runs it on a sequential datapath under a design.
 fn run_object<'a, F: Files, O: Sink>(
     alloc: Global,
-    which: Datapath,
+    which: SequentialDatapath,
     request: RunRequest<'a>,
     bound: BoundDesign,
     files: &mut F,
@@ -127,7 +141,7 @@ fn run_object<'a, F: Files, O: Sink>(
 /// `ssim` and `ssimp`: runs an object file on SEQ or SEQ+ under an HCL file.
 pub fn ssim_file<'a, F: Files, O: Sink>(
     alloc: Global,
-    which: Datapath,
+    which: SequentialDatapath,
     hcl: &'a str,
     request: RunRequest<'a>,
     files: &mut F,

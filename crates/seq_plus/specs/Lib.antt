@@ -1,5 +1,6 @@
 pub mod PlusNames
 pub mod PlusTable
+pub mod Datapaths
 pub mod PlusEquations
 pub mod PlusCycle
 pub mod PlusRun

@@ -8,9 +8,11 @@ mod laws;
 pub mod row;
 mod state;
 mod table;
+mod tables;
 
 pub use datapath::{PLUS_ROWS, Plus};
 pub use dp_machines::run;
 pub use laws::{law_of_calls, law_of_plus_cycles, law_of_runs, law_of_solutions, law_of_table};
 pub use state::{PlusState, PreviousInstruction};
 pub use table::plus_table;
+pub use tables::table_of;

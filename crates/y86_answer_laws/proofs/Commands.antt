@@ -19,15 +19,15 @@ use Rattle.verdict_text.specs.PipeLines.{pipe_yes}
 use Rattle.cli_runs.specs.Big.{BigAnswers}
 use Rattle.cli_checks.specs.Checks.{PipeChecks, SeqChecks}
 use Rattle.cli_verdicts.specs.Verdicts.{AnswersYesPipe, RefusesPipe}
-use Rattle.cli_plans.specs.Datapaths.{rows_of}
+use Rattle.seq_plus.specs.Datapaths.{rows_of}
 use Rattle.cli_plans.specs.Designs.{IsDesign, RefusesDesign, RefusesHcl}
 use Rattle.cli_plans.specs.PlanFollowing.{FilesState, SinkState}
 use Rattle.cli_plans.specs.Plan.{Answer, Plan, HasContents, done, value_in}
 use Rattle.y86_cli.specs.CallContract.{CallContract}
 use Rattle.cli_plans.specs.Calls.{WroteError}
 use Rattle.cli_obligations.specs.Samples.{SampleAnswers}
-use Rattle.cli_plans.specs.declared.datapath.Datapath.{Datapath}
-use Rattle.cli_plans.specs.declared.datapath.Datapath.TheVariants.{Seq, Plus}
+use Rattle.hcl_types.specs.declared.table.SequentialDatapath.{SequentialDatapath}
+use Rattle.hcl_types.specs.declared.table.SequentialDatapath.TheVariants.{Seq, SeqPlus}
 use Rattle.y86_words.specs.Forms.{Command}
 use Rattle.y86_answer_laws.specs.OneAnswer.{AreYes, HasOneAnswer, HasOneRefusal, SameAnswers}
 use Rattle.y86_answer_laws.proofs.Checked.{accepts_pipe_one, control_apart, control_one, pipe_apart, pipe_check_one, refuses_pipe_one, seq_check_one}
@@ -58,17 +58,17 @@ aigrun_plan_one name seed = reads_one _ _ _ (λ text. says_one (AigrunAnswers na
 
 -- ---- commands with a design
 
-sound_of : (which : Datapath) → IsSound (rows_of which)
+sound_of : (which : SequentialDatapath) → IsSound (rows_of which)
 sound_of Seq = seq_sound
-sound_of Plus = plus_sound
+sound_of SeqPlus = plus_sound
 
-seq_plan_one : (which : Datapath) (terms : List Term) (object : List ℕ) (size limit : ℕ) (v : Variant) (ids : List ℕ) → IsBound (rows_of which) terms →
+seq_plan_one : (which : SequentialDatapath) (terms : List Term) (object : List ℕ) (size limit : ℕ) (v : Variant) (ids : List ℕ) → IsBound (rows_of which) terms →
     IsOrderOf (rows_of which) terms ids → HasOneAnswer (seq_plan which terms object size limit v)
 unfolding seq_plan
 seq_plan_one which terms object size limit v ids bound o =
     reads_one _ _ _ (λ bytes. after_one _ _ (λ image. says_one (SeqAnswers which v terms limit image) (seq_answers_one v terms ids image which bound o limit)))
 
-pub ssim_plan_one : (which : Datapath) (name object : List ℕ) (size limit : ℕ) (v : Variant) → HasOneAnswer (ssim_plan which name object size limit v)
+pub ssim_plan_one : (which : SequentialDatapath) (name object : List ℕ) (size limit : ℕ) (v : Variant) → HasOneAnswer (ssim_plan which name object size limit v)
 unfolding ssim_plan
 ssim_plan_one which name object size limit v = reads_one _ _ _ (λ text.
     gives_one (IsDesign (rows_of which) text) (RefusesDesign name (rows_of which) text) _
@@ -76,7 +76,7 @@ ssim_plan_one which name object size limit v = reads_one _ _ _ (λ text.
     (λ terms d. let o = design_ordered (rows_of which) text (sound_of which) terms d in
     seq_plan_one which terms object size limit v o.0 (design_belongs (rows_of which) text (sound_of which) terms d) o.1))
 
-pub check_seq_plan_one : (which : Datapath) (name : List ℕ) (v : Variant) → HasOneAnswer (check_seq_plan which name v)
+pub check_seq_plan_one : (which : SequentialDatapath) (name : List ℕ) (v : Variant) → HasOneAnswer (check_seq_plan which name v)
 unfolding check_seq_plan
 check_seq_plan_one which name v = reads_one _ _ _ (λ text.
     gives_one (IsDesign (rows_of which) text) (RefusesDesign name (rows_of which) text) _

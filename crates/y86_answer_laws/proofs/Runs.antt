@@ -26,11 +26,12 @@ use Rattle.y86_isa.specs.declared.machine.Rec.{Rec}
 use Rattle.cli_runs.specs.Answers.{PipeAnswers, SeqAnswers}
 use Rattle.cli_plans.specs.Stages.{run_status}
 use Rattle.cli_runs.specs.Big.{BigAnswers, big_line, big_status}
-use Rattle.cli_plans.specs.Datapaths.{IsMachineRun, rows_of}
+use Rattle.cli_plans.specs.Datapaths.{IsMachineRun}
+use Rattle.seq_plus.specs.Datapaths.{rows_of}
 use Rattle.cli_runs.specs.PipeRuns.{run_text}
 use Rattle.cli_plans.specs.Plan.{Answer, done}
-use Rattle.cli_plans.specs.declared.datapath.Datapath.{Datapath}
-use Rattle.cli_plans.specs.declared.datapath.Datapath.TheVariants.{Seq, Plus}
+use Rattle.hcl_types.specs.declared.table.SequentialDatapath.{SequentialDatapath}
+use Rattle.hcl_types.specs.declared.table.SequentialDatapath.TheVariants.{Seq, SeqPlus}
 use Rattle.y86_answer_laws.proofs.Least.{same_bools}
 use Rattle.yis_run.specs.Report.{report}
 use Rattle.std.proofs.Common.{◌++◌}
@@ -38,21 +39,21 @@ use Rattle.std.proofs.Common.{◌++◌}
 -- ---- SEQ and SEQ+
 
 module _ (v : Variant) (terms : List Term) (ids image : List ℕ) where
-  plus_ends_one : IsBound (rows_of Plus) terms → IsOrderOf (rows_of Plus) terms ids → (t : PlusState) (a b : Machine) → PlusEndIs v terms t a → PlusEndIs v terms t b → a ≡ b
+  plus_ends_one : IsBound (rows_of SeqPlus) terms → IsOrderOf (rows_of SeqPlus) terms ids → (t : PlusState) (a b : Machine) → PlusEndIs v terms t a → PlusEndIs v terms t b → a ≡ b
   plus_ends_one bound o t a b h k =
       let f = h.1 in
       let g = k.1 in
       let pc : h.0 ≡ k.0 = sym f.2 ∙ plus_unique v t terms ids bound o f.0 g.0 f.1 g.1 row.pc ∙ g.2 in
       h.2 ∙ ap (at_pc t) pc ∙ sym k.2
 
-  pub runs_one : (which : Datapath) → IsBound (rows_of which) terms → IsOrderOf (rows_of which) terms ids → (n : ℕ) (a b : Machine) (rs xs : List Rec) →
+  pub runs_one : (which : SequentialDatapath) → IsBound (rows_of which) terms → IsOrderOf (rows_of which) terms ids → (n : ℕ) (a b : Machine) (rs xs : List Rec) →
       IsMachineRun which v terms image n a rs → IsMachineRun which v terms image n b xs → (a ≡ b) × (rs ≡ xs)
   runs_one Seq bound o n a b rs xs h k = seq.run_alone v terms ids bound o (start image) n a b rs xs h k
-  runs_one Plus bound o n a b rs xs h k =
+  runs_one SeqPlus bound o n a b rs xs h k =
       let one = plus.run_alone v terms ids bound o (plus_start image) n h.0 k.0 rs xs h.1 k.1 in
       (plus_ends_one bound o k.0 a b (subst (λ t. PlusEndIs v terms t a) one.0 h.2) k.2, one.1)
 
-  pub seq_answers_one : (which : Datapath) → IsBound (rows_of which) terms → IsOrderOf (rows_of which) terms ids → (limit : ℕ) (a b : Answer) →
+  pub seq_answers_one : (which : SequentialDatapath) → IsBound (rows_of which) terms → IsOrderOf (rows_of which) terms ids → (limit : ℕ) (a b : Answer) →
       SeqAnswers which v terms limit image a → SeqAnswers which v terms limit image b → a ≡ b
   seq_answers_one which bound o limit a b h k =
       let one = runs_one which bound o limit h.0 k.0 h.1 k.1 h.2 k.2 in

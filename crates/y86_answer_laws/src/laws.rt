@@ -8,7 +8,7 @@ ghost use Rattle.y86_cli.specs.Answers.{plan_in};
 ghost use Rattle.cli_plans.specs.PlanFollowing.{FilesState, SinkState};
 ghost use Rattle.cli_plans.specs.Plan.{HasContents};
 ghost use Rattle.y86_cli.specs.CallContract.{CallContract};
-ghost use Rattle.cli_plans.specs.declared.datapath.Datapath.{Datapath};
+ghost use Rattle.hcl_types.specs.declared.table.SequentialDatapath.{SequentialDatapath};
 ghost use Rattle.y86_words.specs.Forms.{Command, certify_pipe, form_of, recheck};
 ghost use Rattle.y86_answer_laws.specs.OneAnswer.{HasOneAnswer, HasOneRefusal, KeptCertificate, SameAnswers};
 
@@ -19,10 +19,10 @@ pub fn law_of_one_answer()
     ensures yas { (source : List ℕ) (size : ℕ) (v : Variant) → HasOneAnswer (yas_plan source size v) }
     ensures yis { (object : List ℕ) (size limit : ℕ) (v : Variant) → HasOneAnswer (yis_plan object size limit v) }
     ensures hcl { (name : List ℕ) → HasOneAnswer (hcl_plan name) }
-    ensures ssim { (which : Datapath) (name object : List ℕ) (size limit : ℕ) (v : Variant) → HasOneAnswer (ssim_plan which name object size limit v) }
+    ensures ssim { (which : SequentialDatapath) (name object : List ℕ) (size limit : ℕ) (v : Variant) → HasOneAnswer (ssim_plan which name object size limit v) }
     ensures psim { (name object : List ℕ) (size limit : ℕ) (trace checked : Bool) (v : Variant) →
         HasOneAnswer (psim_plan name object size limit trace checked v) }
-    ensures check_seq { (which : Datapath) (name : List ℕ) (v : Variant) → HasOneAnswer (check_seq_plan which name v) }
+    ensures check_seq { (which : SequentialDatapath) (name : List ℕ) (v : Variant) → HasOneAnswer (check_seq_plan which name v) }
     ensures check_pipe { (name : List ℕ) (v : Variant) → HasOneAnswer (check_pipe_plan name v) }
     ensures big { (n : ℕ) (name : List ℕ) (v : Variant) → HasOneAnswer (big_plan n name v) }
     ensures sample { (name : List ℕ) (seed count : ℕ) (v : Variant) → HasOneAnswer (sample_plan name seed count v) }

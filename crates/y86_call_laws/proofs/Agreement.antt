@@ -21,7 +21,7 @@ use Rattle.cli_runs.specs.Answers.{PipeAnswers, checked_plan, pipe_plan, psim_pl
 use Rattle.cli_checks.specs.Answers.{check_pipe_plan, check_seq_plan}
 use Rattle.cli_plans.specs.Stages.{image_of_text}
 use Rattle.cli_verdicts.specs.Verdicts.{AnswersYesPipe, RefusesControl}
-use Rattle.cli_plans.specs.Datapaths.{rows_of}
+use Rattle.seq_plus.specs.Datapaths.{rows_of}
 use Rattle.cli_plans.specs.Designs.{IsDesign, RefusesDesign}
 use Rattle.cli_plans.specs.PlanFollowing.{FilesState, SinkState}
 use Rattle.y86_words.specs.Forms.{check_pipe, check_plus, check_seq, form_of, psim}
@@ -30,8 +30,8 @@ use Rattle.cli_plans.specs.Plan.{Answer, MayBeAnswer, value_from, done, refused}
 use Rattle.cli_runs.specs.PipeRuns.{RunsFor, end_of, run_text}
 use Rattle.y86_cli.specs.CallContract.{CallContract, DeliversOnBoth}
 use Rattle.y86_words.proofs.Legal.{form_legal}
-use Rattle.cli_plans.specs.declared.datapath.Datapath.{Datapath}
-use Rattle.cli_plans.specs.declared.datapath.Datapath.TheVariants.{Seq, Plus}
+use Rattle.hcl_types.specs.declared.table.SequentialDatapath.{SequentialDatapath}
+use Rattle.hcl_types.specs.declared.table.SequentialDatapath.TheVariants.{Seq, SeqPlus}
 use Rattle.y86_call_laws.proofs.Loaded.{loaded_is_image}
 
 -- ---- a run that goes on to its end is a run
@@ -104,7 +104,7 @@ check_accepts name v files_before files_after out_before out_after err_before er
 
 -- ---- `check seq` and `check seqplus`
 
-check_seq_told : (which : Datapath) (told : List ℕ → Option (Option (List ℕ))) (name : List ℕ) (v : Variant) (a : Answer) → MayBeAnswer told (check_seq_plan which name v) a →
+check_seq_told : (which : SequentialDatapath) (told : List ℕ → Option (Option (List ℕ))) (name : List ℕ) (v : Variant) (a : Answer) → MayBeAnswer told (check_seq_plan which name v) a →
     a.status ≡ 0 → HasAcceptedSeq which v (told name) × (a.out ≡ codes "yes\n")
 unfolding check_seq_plan
 check_seq_told which told name v a (inl failed) none = absurd (high a 3 _ failed.1 (lit≤ tt) (omega (arith, none)))
@@ -117,7 +117,7 @@ check_seq_told which told name v a (inr (inr (text, has, short, inl (terms, desi
 check_seq_told which told name v a (inr (inr (text, has, short, inl (terms, design, inr (inr refuses))))) none =
     absurd (control_high name (rows_of which) terms a refuses (omega (arith, none)))
 
-check_seq_says : (which : Datapath) (name : List ℕ) (v : Variant) (a : Answer) (files_before : FilesState) (out_before out_after err_before err_after : SinkState) →
+check_seq_says : (which : SequentialDatapath) (name : List ℕ) (v : Variant) (a : Answer) (files_before : FilesState) (out_before out_after err_before err_after : SinkState) →
     MayBeAnswer files_before.told (check_seq_plan which name v) a → DeliversOnBoth a out_before out_after err_before err_after 0 → ToldAcceptedSeq which v (files_before.told name) out_before out_after
 check_seq_says which name v a files_before out_before out_after err_before err_after may shows =
     let said = check_seq_told which files_before.told name v a may (sym (shows.status_is (λ four. omega (arith, four)))) in
@@ -130,10 +130,10 @@ check_seq_accepts name v files_before files_after out_before out_after err_befor
     check_seq_says Seq name v given.0 files_before out_before out_after err_before err_after given.1.by_some given.2
 
 check_plus_accepts : (name : List ℕ) (v : Variant) (files_before files_after : FilesState) (out_before out_after err_before err_after : SinkState) →
-    CallContract (Some (check_plus name v)) files_before files_after out_before out_after err_before err_after 0 → ToldAcceptedSeq Plus v (files_before.told name) out_before out_after
+    CallContract (Some (check_plus name v)) files_before files_after out_before out_after err_before err_after 0 → ToldAcceptedSeq SeqPlus v (files_before.told name) out_before out_after
 check_plus_accepts name v files_before files_after out_before out_after err_before err_after ran =
     let given = ran.answer (λ three. omega (arith, three)) (λ six. omega (arith, six)) in
-    check_seq_says Plus name v given.0 files_before out_before out_after err_before err_after given.1.by_some given.2
+    check_seq_says SeqPlus name v given.0 files_before out_before out_after err_before err_after given.1.by_some given.2
 
 -- ---- `psim` after a check
 
@@ -218,7 +218,7 @@ accepting_seq_words words name v files_before files_after out_before out_after e
 
 pub accepting_plus_words : (words : List (List ℕ)) (name : List ℕ) (v : Variant) (files_before files_after : FilesState) (out_before out_after err_before err_after : SinkState) →
     form_of words ≡ Some (check_plus name v) → CallContract (form_of words) files_before files_after out_before out_after err_before err_after 0 →
-    ToldAcceptedSeq Plus v (files_before.told name) out_before out_after
+    ToldAcceptedSeq SeqPlus v (files_before.told name) out_before out_after
 accepting_plus_words words name v files_before files_after out_before out_after err_before err_after is ran =
     check_plus_accepts name v files_before files_after out_before out_after err_before err_after (rw is at ran)
 

@@ -20,7 +20,7 @@ use Rattle.cli_runs.specs.Big.{BigAnswers}
 use Rattle.cli_obligations.specs.Certified.{PipeCertifies, Rechecks}
 use Rattle.cli_checks.specs.Checks.{PipeChecks, SeqChecks}
 use Rattle.cli_verdicts.specs.Verdicts.{RefusesControl, RefusesPipe}
-use Rattle.cli_plans.specs.Datapaths.{rows_of}
+use Rattle.seq_plus.specs.Datapaths.{rows_of}
 use Rattle.cli_plans.specs.Designs.{RefusesDesign}
 use Rattle.hcl_types.specs.declared.table.Row.{Row}
 use Rattle.hcl_types.specs.declared.term.Term.{Term}
@@ -32,8 +32,8 @@ use Rattle.cli_plans.specs.Plan.{done, Answer, Plan, answer_in, reads, value_in,
 use Rattle.cli_obligations.specs.Samples.{SampleAnswers}
 use Rattle.y86_cli.specs.CallContract.{CallContract}
 use Rattle.cli_plans.specs.Calls.{WroteError}
-use Rattle.cli_plans.specs.declared.datapath.Datapath.{Datapath}
-use Rattle.cli_plans.specs.declared.datapath.Datapath.TheVariants.{Seq, Plus}
+use Rattle.hcl_types.specs.declared.table.SequentialDatapath.{SequentialDatapath}
+use Rattle.hcl_types.specs.declared.table.SequentialDatapath.TheVariants.{Seq, SeqPlus}
 
 -- ---- determined plans
 
@@ -176,7 +176,7 @@ image_proper : (name : List ℕ) (loaded : Result (List ℕ) YoFault) (a : Answe
 image_proper name (Ok image) a is = absurd (cc (is))
 image_proper name (Err fault) a is = refused_proper (object_fault_line name fault) a (cc (is))
 
-seq_proper : (which : Datapath) (v : Variant) (terms : List Term) (limit : ℕ) (image : List ℕ) → AllProper (answer_in (SeqAnswers which v terms limit image))
+seq_proper : (which : SequentialDatapath) (v : Variant) (terms : List Term) (limit : ℕ) (image : List ℕ) → AllProper (answer_in (SeqAnswers which v terms limit image))
 unfolding AllProper
 seq_proper which v terms limit image = λ a said. proper_as a _ (inl (run_status_low said.0.stat, refl)) said.3
 
@@ -193,17 +193,17 @@ control_proper : (name : List ℕ) (rows : List Row) (terms : List Term) (a : An
 control_proper name rows terms a (inl mixed) = refused_proper _ a mixed.told
 control_proper name rows terms a (inr over) = refused_proper _ a over.told
 
-seq_check_proper : (which : Datapath) (name : List ℕ) (v : Variant) (terms : List Term) (a : Answer) → SeqChecks which name v terms a → IsProper a
+seq_check_proper : (which : SequentialDatapath) (name : List ℕ) (v : Variant) (terms : List Term) (a : Answer) → SeqChecks which name v terms a → IsProper a
 seq_check_proper which name v terms a (inl accepts) = proper_as a _ (inl (lit≤ tt, refl)) accepts.told
 seq_check_proper which name v terms a (inr (inl denied)) = proper_as a _ (inl (lit≤ tt, refl)) denied.told
 seq_check_proper which name v terms a (inr (inr refuses)) = control_proper name (rows_of which) terms a refuses
 
-ssim_proper : (which : Datapath) (name object : List ℕ) (size limit : ℕ) (v : Variant) → AllProper (ssim_plan which name object size limit v)
+ssim_proper : (which : SequentialDatapath) (name object : List ℕ) (size limit : ℕ) (v : Variant) → AllProper (ssim_plan which name object size limit v)
 unfolding AllProper seq_plan ssim_plan
 ssim_proper which name object size limit v =
     λ text. (λ terms is bytes. after_proper _ _ (λ image. seq_proper which v terms limit image) (image_proper object (object_of bytes size)), design_proper name (rows_of which) text)
 
-check_seq_proper : (which : Datapath) (file : List ℕ) (v : Variant) → AllProper (check_seq_plan which file v)
+check_seq_proper : (which : SequentialDatapath) (file : List ℕ) (v : Variant) → AllProper (check_seq_plan which file v)
 unfolding AllProper check_seq_plan
 check_seq_proper which file v = λ text. (λ terms is a said. seq_check_proper which file v terms a said, design_proper file (rows_of which) text)
 
@@ -266,11 +266,11 @@ command_proper (yis object size limit v) =
     λ bytes. after_proper _ _ (λ image. answers_proper _ (run_proper v image limit)) (image_proper object (object_of bytes size))
 command_proper (hcl file) = λ text. (λ tree is. answers_proper _ (inl (lit≤ tt, refl)), λ a refuses. refused_proper _ a refuses.2)
 command_proper (ssim name object size limit v) = ssim_proper Seq name object size limit v
-command_proper (ssimp name object size limit v) = ssim_proper Plus name object size limit v
+command_proper (ssimp name object size limit v) = ssim_proper SeqPlus name object size limit v
 command_proper (psim name object size limit trace checked v) =
     λ text. (λ terms is. checked_proper name terms object size limit trace checked v, design_proper name pipe_rows text)
 command_proper (check_seq file v) = check_seq_proper Seq file v
-command_proper (check_plus file v) = check_seq_proper Plus file v
+command_proper (check_plus file v) = check_seq_proper SeqPlus file v
 command_proper (check_pipe file v) = λ text. (λ terms is a said. pipe_check_proper file v terms a said, design_proper file pipe_rows text)
 command_proper (certify_pipe file v) = λ text. (λ terms is a said. certify_proper file v terms a said, design_proper file pipe_rows text)
 command_proper (recheck file cert v) =

@@ -19,12 +19,12 @@ use Rattle.cli_plans.specs.Stages.{run_status}
 use Rattle.cli_obligations.specs.Certified.{HasCertified}
 use Rattle.cli_verdicts.specs.Verdicts.{AnswersNoPipe}
 use Rattle.cli_checks.specs.Sequential.{Accepts, RefinesRun}
-use Rattle.cli_plans.specs.Datapaths.{rows_of}
+use Rattle.seq_plus.specs.Datapaths.{rows_of}
 use Rattle.cli_plans.specs.Designs.{IsDesign}
 use Rattle.cli_plans.specs.PlanFollowing.{SinkState}
 use Rattle.cli_plans.specs.Plan.{Answer}
 use Rattle.cli_runs.specs.PipeRuns.{RunsTo, end_of, run_text}
-use Rattle.cli_plans.specs.declared.datapath.Datapath.{Datapath}
+use Rattle.hcl_types.specs.declared.table.SequentialDatapath.{SequentialDatapath}
 
 -- A file with an accepted design: what is known of its bytes, if anything, is that they are the text; the text is read,
 -- bound and ordered; the design satisfies every obligation at its settings. So on every image whose instructions fetch
@@ -41,7 +41,7 @@ pub record HasAccepted (v : Variant) (told : Option (Option (List ℕ))) : Type 
 
 -- The same for a sequential datapath: on every image its machine is that of the run of instructions after each number
 -- of cycles.
-pub record HasAcceptedSeq (which : Datapath) (v : Variant) (told : Option (Option (List ℕ))) : Type 0 where
+pub record HasAcceptedSeq (which : SequentialDatapath) (v : Variant) (told : Option (Option (List ℕ))) : Type 0 where
   pub text : List ℕ
   pub has : HasBytes told text
   pub terms : List Term
@@ -54,7 +54,7 @@ pub record ToldAccepted (v : Variant) (told : Option (Option (List ℕ))) (befor
   pub file : HasAccepted v told
   pub line : Appended before.taken after.taken (pipe_yes file.settings)
 
-pub record ToldAcceptedSeq (which : Datapath) (v : Variant) (told : Option (Option (List ℕ))) (before after : SinkState) : Type 0 where
+pub record ToldAcceptedSeq (which : SequentialDatapath) (v : Variant) (told : Option (Option (List ℕ))) (before after : SinkState) : Type 0 where
   pub file : HasAcceptedSeq which v told
   pub line : Appended before.taken after.taken (codes "yes\n")
 

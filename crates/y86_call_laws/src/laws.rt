@@ -8,7 +8,7 @@ ghost use Rattle.cli_runs.specs.Answers.{yas_plan, yis_plan};
 ghost use Rattle.cli_runs.specs.Big.{AnsweredSame};
 ghost use Rattle.cli_plans.specs.PlanFollowing.{FilesState, SinkState};
 ghost use Rattle.y86_words.specs.Forms.{Command, big, certify_pipe, check_pipe, check_plus, check_seq, form_of, psim, recheck};
-ghost use Rattle.cli_plans.specs.declared.datapath.Datapath.TheVariants.{Plus, Seq};
+ghost use Rattle.hcl_types.specs.declared.table.SequentialDatapath.TheVariants.{Seq, SeqPlus};
 ghost use Rattle.cli_plans.specs.Plan.{Answer, IsAnswerOf, IsDetermined, HasContents};
 ghost use Rattle.y86_cli.specs.CallContract.{CallContract};
 ghost use Rattle.cli_plans.specs.Calls.{WroteError};
@@ -63,7 +63,7 @@ pub fn law_of_accepted_files()
         ToldAcceptedSeq Seq v (files_before.told name) out_before out_after }
     ensures check_plus { (words : List (List ℕ)) (name : List ℕ) (v : Variant) (files_before files_after : FilesState) (out_before out_after err_before err_after : SinkState) →
         form_of words ≡ Some (check_plus name v) → CallContract (form_of words) files_before files_after out_before out_after err_before err_after 0 →
-        ToldAcceptedSeq Plus v (files_before.told name) out_before out_after }
+        ToldAcceptedSeq SeqPlus v (files_before.told name) out_before out_after }
     ensures check_pipe { (words : List (List ℕ)) (name : List ℕ) (v : Variant) (files_before files_after : FilesState) (out_before out_after err_before err_after : SinkState) →
         form_of words ≡ Some (check_pipe name v) → CallContract (form_of words) files_before files_after out_before out_after err_before err_after 0 →
         ToldAccepted v (files_before.told name) out_before out_after }

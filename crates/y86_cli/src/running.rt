@@ -11,10 +11,11 @@ use cli_checks::{check_pipe_file, check_seq_file};
 use cli_obligations::{
     SampleRequest, aig_file, aigrun_file, certify_pipe_file, recheck_certificate, sample_file,
 };
-use cli_plans::{Datapath, Status, StopReason, report_stop};
+use cli_plans::{Status, StopReason, report_stop};
 use cli_runs::{
     PipeRequest, RunRequest, big_file, hcl_file, psim_file, ssim_file, yas_file, yis_file,
 };
+use hcl_types::SequentialDatapath;
 use std::alloc::Global;
 use wb_io::{Files, Sink};
 use y86_words::{Cmd, Usage, words};
@@ -60,7 +61,7 @@ fn execute<'a, F: Files, O: Sink>(
                 limit,
                 variant,
             };
-            ssim_file(alloc, Datapath::Seq, hcl, request, files, out)
+            ssim_file(alloc, SequentialDatapath::Seq, hcl, request, files, out)
         }
         Cmd::Ssimp {
             hcl,
@@ -75,7 +76,7 @@ fn execute<'a, F: Files, O: Sink>(
                 limit,
                 variant,
             };
-            ssim_file(alloc, Datapath::Plus, hcl, request, files, out)
+            ssim_file(alloc, SequentialDatapath::SeqPlus, hcl, request, files, out)
         }
         Cmd::Psim {
             hcl,
@@ -101,10 +102,10 @@ fn execute<'a, F: Files, O: Sink>(
             psim_file(alloc, request, files, out)
         }
         Cmd::CheckSeq { hcl, variant } => {
-            check_seq_file(alloc, Datapath::Seq, hcl, variant, files, out)
+            check_seq_file(alloc, SequentialDatapath::Seq, hcl, variant, files, out)
         }
         Cmd::CheckPlus { hcl, variant } => {
-            check_seq_file(alloc, Datapath::Plus, hcl, variant, files, out)
+            check_seq_file(alloc, SequentialDatapath::SeqPlus, hcl, variant, files, out)
         }
         Cmd::CheckPipe { hcl, variant } => check_pipe_file(alloc, hcl, variant, files, out),
         Cmd::CertifyPipe { hcl, variant } => certify_pipe_file(alloc, hcl, variant, files, out),

@@ -1,6 +1,6 @@
 use Rattle.std.proofs.Common.{List}
 use Rattle.hcl_types.specs.declared.term.Term.{Term}
-use Rattle.cli_plans.specs.Datapaths.{rows_of}
+use Rattle.seq_plus.specs.Datapaths.{rows_of}
 use Rattle.cli_plans.specs.Designs.{IsDesign, RefusesDesign}
 use Rattle.hcl_types.specs.declared.table.BoundDesign.{BoundDesign}
 use Rattle.cli_plans.proofs.Does.{stage_read}
