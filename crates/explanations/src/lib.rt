@@ -8,5 +8,5 @@ mod signals;
 
 pub use faults::{FaultKind, fault_kinds};
 pub use instructions::instruction_meaning;
-pub use obligations::{Obligation, Path, obligation_at, obligation_count};
+pub use obligations::{Obligation, obligation_at, obligation_count};
 pub use signals::{GROUP_COUNT, Signal, Staged, signal_group, signal_named};

@@ -1,4 +1,5 @@
 //! The obligations in sentences: what each demands, and why.
+use hcl_types::Datapath;
 
 /// An obligation in sentences. Names of signals are between backticks.
 #[derive(Clone, Copy, Debug)]
@@ -14,14 +15,6 @@ pub struct Obligation {
     pub reason: &'static str,
     /// Where CS:APP 3e explains it.
     pub book: &'static str,
-}
-
-/// The datapaths.
-#[derive(Clone, Copy, Debug, PartialEq, Eq)]
-pub enum Path {
-    Seq,
-    SeqPlus,
-    Pipe,
 }
 
 /// The obligations of PIPE on fetch: O1 to O5.
@@ -468,13 +461,13 @@ fn pipe_group(place: usize) -> &'static [Obligation] {
 }
 
 /// A group of obligations of a datapath.
-fn obligation_group(path: Path, place: usize) -> &'static [Obligation] {
+fn obligation_group(path: Datapath, place: usize) -> &'static [Obligation] {
     match path {
-        Path::Pipe => pipe_group(place),
-        Path::Seq | Path::SeqPlus => match place {
+        Datapath::Pipe => pipe_group(place),
+        Datapath::Seq | Datapath::SeqPlus => match place {
             0 => SEQ_DECODE,
             1 => SEQ_MEMORY,
-            2 if path == Path::Seq => SEQ_LAST,
+            2 if path == Datapath::Seq => SEQ_LAST,
             2 => SEQ_PLUS_LAST,
             _ => &[],
         },
@@ -482,7 +475,7 @@ fn obligation_group(path: Path, place: usize) -> &'static [Obligation] {
 }
 
 /// The obligation of a datapath with this number, counted from 1.
-pub fn obligation_at(path: Path, number: u32) -> Option<&'static Obligation> {
+pub fn obligation_at(path: Datapath, number: u32) -> Option<&'static Obligation> {
     let mut place = u32::wrapping_sub(number, 1) as usize;
     for k in 0..GROUP_COUNT {
         let group = obligation_group(path, k);
@@ -495,7 +488,7 @@ pub fn obligation_at(path: Path, number: u32) -> Option<&'static Obligation> {
 }
 
 /// How many obligations a datapath has.
-pub fn obligation_count(path: Path) -> u32 {
+pub fn obligation_count(path: Datapath) -> u32 {
     let mut count = 0;
     for k in 0..GROUP_COUNT {
         for _ in obligation_group(path, k) {

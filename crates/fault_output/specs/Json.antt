@@ -3,7 +3,7 @@ use Rattle.std.specs.Prelude.{ℕ, ◌==◌, nat_le, Bool, true, false, ◌||◌
 use Rattle.std.specs.Borrow.{Bor}
 use Rattle.y86_base.specs.Numeral.{numeral}
 use Rattle.fault_report.specs.Datapaths.{datapath_name}
-use Rattle.fault_report.specs.declared.facts.Datapath.{Datapath}
+use Rattle.hcl_types.specs.declared.table.Datapath.{Datapath}
 use Rattle.fault_report.specs.declared.facts.Fault.{Fault}
 use Rattle.fault_report.specs.declared.facts.Related.{Related}
 use Rattle.fault_report.specs.declared.facts.Report.{Report}

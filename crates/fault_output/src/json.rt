@@ -4,7 +4,8 @@ ghost use Rattle.std.specs.Prelude.{◌≡◌, ◌++◌, codes, true, IfOk, OnOk
 ghost use Rattle.y86_base.specs.Numeral.{numeral};
 ghost use Rattle.fault_output.specs.Json as spec;
 
-use fault_report::{Datapath, Fault, Related, Report, datapath_name};
+use fault_report::{Fault, Related, Report, datapath_name};
+use hcl_types::Datapath;
 use std::alloc::Global;
 use y86_base::{Memory, Numeral, put, put_decimal};
 

@@ -1,7 +1,7 @@
 -- The names of the datapaths, as the book writes them.
 use Rattle.std.specs.Prelude.{ℕ, codes, List}
-use Rattle.fault_report.specs.declared.facts.Datapath.{Datapath}
-use Rattle.fault_report.specs.declared.facts.Datapath.TheVariants.{Seq, SeqPlus, Pipe}
+use Rattle.hcl_types.specs.declared.table.Datapath.{Datapath}
+use Rattle.hcl_types.specs.declared.table.Datapath.TheVariants.{Seq, SeqPlus, Pipe}
 
 abbrev pub datapath_name : Datapath → List ℕ
 datapath_name Seq = codes "SEQ"

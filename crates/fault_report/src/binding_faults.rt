@@ -3,7 +3,7 @@ ghost use Rattle.std.specs.List.Sorted.{IsPermutation};
 ghost use Rattle.hcl_types.specs.Tables.{IsSound};
 
 use crate::blame::{Blame, Blamed, first_blame, kind_of_row};
-use crate::facts::{Datapath, Fault, Related, datapath_name, other_place};
+use crate::facts::{Fault, Related, datapath_name, other_place};
 use crate::fill::{Words, filled, words_about};
 use crate::hcl_reading::line_of;
 use hcl_binding::{BindWhy, bind};
@@ -13,7 +13,7 @@ use hcl_faults::{
 };
 use hcl_order::{OrderFault, order};
 use hcl_tree::{File, Item, Kind, Text};
-use hcl_types::{Row, Table};
+use hcl_types::{Datapath, Row, Table};
 use std::alloc::Global;
 use y86_base::{Items, Memory, push, put};
 

@@ -3,17 +3,9 @@ ghost use Rattle.std.specs.Prelude.{◌≡◌};
 ghost use Rattle.fault_report.specs.Datapaths as spec;
 
 use hcl_tree::Text;
-use hcl_types::Table;
+use hcl_types::{Datapath, Table};
 use std::alloc::Global;
 use y86_base::{Items, Memory};
-
-/// A datapath of CS:APP 3e, chapter 4.
-#[derive(Clone, Copy, Debug, PartialEq, Eq)]
-pub enum Datapath {
-    Seq,
-    SeqPlus,
-    Pipe,
-}
 
 /// The tables of names of the three datapaths.
 #[derive(Drop)]

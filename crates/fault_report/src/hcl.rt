@@ -2,11 +2,11 @@
 ghost use Rattle.hcl_types.specs.Tables.{IsSound};
 
 use crate::binding_faults::{Source, count_unknown, datapath_fault, table_faults};
-use crate::facts::{Datapath, Fault, Report, Tables};
+use crate::facts::{Fault, Report, Tables};
 use crate::hcl_reading::reading_fault;
 use hcl_faults::{TokenAt, stop_in, token_list};
 use hcl_read::read;
-use hcl_types::Table;
+use hcl_types::{Datapath, Table};
 use std::alloc::Global;
 use y86_base::{Items, Memory, push};
 

@@ -17,7 +17,7 @@ mod object;
 mod show;
 
 pub use assembly::assembly_report;
-pub use facts::{Datapath, Fault, Related, Report, Tables, datapath_name};
+pub use facts::{Fault, Related, Report, Tables, datapath_name};
 pub use hcl::hcl_report;
 pub use object::{is_source, object_report};
 pub use show::sentences_of;

@@ -4,12 +4,12 @@ use crate::motion::{Motion, motion_faults, motion_of};
 use crate::scene::{Scene, scene_of};
 use crate::settings::put_settings_json;
 use crate::stages::kind_name;
-use explanations::{Path, obligation_at};
+use explanations::obligation_at;
 use finding_text::{
     CasePlace, ExplainedFile, Out, put_comparison_facts, put_finding_facts, put_mend_first,
     put_number, put_obligation_facts, put_text, put_truth,
 };
-use hcl_types::NameId;
+use hcl_types::{Datapath, NameId};
 use pipe_diagnosis::{Refusal, Refutation};
 use pipe_fields::StageLine;
 use pipe_requirements::{Lines, RegisterControlNow, StageFlowNow};
@@ -160,7 +160,7 @@ fn put_refutation(
 ) -> Result<(), AllocError> {
     let motion = motion_of(scene);
     out.begin_object()?;
-    put_obligation_facts(out, obligation_at(Path::Pipe, refutation.rule))?;
+    put_obligation_facts(out, obligation_at(Datapath::Pipe, refutation.rule))?;
     put_situation(out, scene, &motion.lines)?;
     put_finding_facts(
         alloc,
@@ -195,6 +195,6 @@ pub fn put_refusal_json<'a>(
     }
     out.end_array()?;
     let first = first_to_mend(alloc, variant, file, refusal)?;
-    put_mend_first(out, obligation_at(Path::Pipe, first))?;
+    put_mend_first(out, obligation_at(Datapath::Pipe, first))?;
     out.end_object()
 }

@@ -4,12 +4,12 @@ use crate::motion::{Motion, fetch_sentence, motion_faults, motion_of, move_name,
 use crate::scene::{Scene, scene_of};
 use crate::stages::put_stages;
 use dp_signals::pipe_row as name;
-use explanations::{Path, obligation_at};
+use explanations::obligation_at;
 use finding_text::{
     ExplainedFile, put_comparisons, put_findings, put_leaf, put_obligation, put_paragraph,
     put_wrong_findings,
 };
-use hcl_types::NameId;
+use hcl_types::{Datapath, NameId};
 use motion_repairs::Repairs;
 use pipe_diagnosis::{Refusal, Refutation};
 use pipe_requirements::Wanted;
@@ -321,7 +321,7 @@ pub fn put_refusal<'a>(
     out.push_str("no: ")?;
     put_label(out, rule)?;
     out.push_str(" is false somewhere.\n\n")?;
-    if let Some(o) = obligation_at(Path::Pipe, rule) {
+    if let Some(o) = obligation_at(Datapath::Pipe, rule) {
         put_obligation(alloc, out, o)?;
     }
     out.push_str("\nThe smallest counterexample:\n\n")?;

@@ -4,8 +4,8 @@ use finding_text::{
     CasePlace, ExplainedFile, Out, Values, put_comparison_facts, put_finding_facts, put_mend_first,
     put_number, put_obligation_facts, put_text,
 };
+use hcl_types::SequentialDatapath;
 use seq_diagnosis::{Refusal, Refutation};
-use seq_requirements::Datapath;
 use std::alloc::{AllocError, Global};
 use verdict_text::{ShownField, plus_fields, previous_fields, seq_fields};
 
@@ -23,12 +23,16 @@ fn put_line(
     out.end_object()
 }
 
-fn put_situation(out: &mut Out, which: Datapath, values: &Values<'_>) -> Result<(), AllocError> {
+fn put_situation(
+    out: &mut Out,
+    which: SequentialDatapath,
+    values: &Values<'_>,
+) -> Result<(), AllocError> {
     out.key("counterexample")?;
     out.begin_object()?;
     match which {
-        Datapath::Seq => put_line(out, "S", values.bits, seq_fields())?,
-        Datapath::Plus => {
+        SequentialDatapath::Seq => put_line(out, "S", values.bits, seq_fields())?,
+        SequentialDatapath::SeqPlus => {
             put_line(out, "P", values.bits, previous_fields())?;
             put_line(out, "S", values.bits, plus_fields())?;
         }
@@ -41,7 +45,7 @@ fn put_situation(out: &mut Out, which: Datapath, values: &Values<'_>) -> Result<
 fn put_refutation(
     alloc: Global,
     out: &mut Out,
-    which: Datapath,
+    which: SequentialDatapath,
     values: &Values<'_>,
     cases: &[CasePlace<'_>],
     refutation: &Refutation,
@@ -65,7 +69,7 @@ fn put_refutation(
 pub fn put_seq_refusal_json<'a>(
     alloc: Global,
     out: &mut Out,
-    which: Datapath,
+    which: SequentialDatapath,
     file: &ExplainedFile<'a>,
     refusal: &'a Refusal,
 ) -> Result<(), AllocError> {

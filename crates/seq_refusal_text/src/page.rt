@@ -5,8 +5,9 @@ use finding_text::{
     ExplainedFile, Values, put_comparisons, put_findings, put_obligation, put_paragraph,
     put_wrong_findings,
 };
+use hcl_types::SequentialDatapath;
 use seq_diagnosis::{Refusal, Refutation};
-use seq_requirements::{Datapath, line_of};
+use seq_requirements::line_of;
 use std::alloc::{AllocError, Global};
 
 /// Writes, on one line, what is wrong at the counterexample of another obligation.
@@ -28,7 +29,7 @@ fn put_other(
 fn put_others<'a>(
     alloc: Global,
     out: &mut String,
-    which: Datapath,
+    which: SequentialDatapath,
     file: &ExplainedFile<'a>,
     refusal: &'a Refusal,
 ) -> Result<(), AllocError> {
@@ -52,7 +53,7 @@ fn put_others<'a>(
 pub fn put_seq_refusal<'a>(
     alloc: Global,
     out: &mut String,
-    which: Datapath,
+    which: SequentialDatapath,
     file: &ExplainedFile<'a>,
     refusal: &'a Refusal,
 ) -> Result<(), AllocError> {

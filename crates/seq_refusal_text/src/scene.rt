@@ -1,34 +1,34 @@
 //! What a refusal is explained over: the names of the table, the definitions, and one counterexample.
 ghost use Rattle.std.specs.Prelude.{◌≡◌};
-ghost use Rattle.explanations.specs.declared.obligations.Path.TheVariants as path;
-ghost use Rattle.seq_requirements.specs.declared.datapath.Datapath.TheVariants as datapath;
+ghost use Rattle.hcl_types.specs.declared.table.Datapath.TheVariants as path;
+ghost use Rattle.hcl_types.specs.declared.table.SequentialDatapath.TheVariants as datapath;
 
-use explanations::{Obligation, Path, obligation_at};
+use explanations::{Obligation, obligation_at};
 use finding_text::{ExplainedFile, Values, first_alone, put_wrong};
-use hcl_types::NameId;
+use hcl_types::{Datapath, NameId, SequentialDatapath};
 use seq_diagnosis::{Refusal, Refutation};
-use seq_requirements::{Datapath, PreviousNow, bit_count, first_defined, previous_of};
+use seq_requirements::{PreviousNow, bit_count, first_defined, previous_of};
 use std::alloc::{AllocError, Global};
 
 /// The datapath, as obligations name it.
-pub fn path_of(which: Datapath) -> Path
+pub fn path_of(which: SequentialDatapath) -> Datapath
     ensures seq { which ≡ datapath.Seq → result ≡ path.Seq }
-    ensures plus { which ≡ datapath.Plus → result ≡ path.SeqPlus }
+    ensures plus { which ≡ datapath.SeqPlus → result ≡ path.SeqPlus }
 {
     match which {
-        Datapath::Seq => Path::Seq,
-        Datapath::Plus => Path::SeqPlus,
+        SequentialDatapath::Seq => Datapath::Seq,
+        SequentialDatapath::SeqPlus => Datapath::SeqPlus,
     }
 }
 
 /// An obligation of the datapath.
-pub fn obligation_of(which: Datapath, rule: u32) -> Option<&'static Obligation> {
+pub fn obligation_of(which: SequentialDatapath, rule: u32) -> Option<&'static Obligation> {
     obligation_at(path_of(which), rule)
 }
 
 /// The values at the counterexample of a refutation.
 pub fn values_of<'a>(
-    which: Datapath,
+    which: SequentialDatapath,
     file: &ExplainedFile<'a>,
     refusal: &'a Refusal,
     refutation: &'a Refutation,
@@ -49,10 +49,10 @@ pub fn values_of<'a>(
 }
 
 /// What is stored of the instruction before: only SEQ+ has it.
-pub fn before(which: Datapath, bits: &[bool]) -> Option<PreviousNow> {
+pub fn before(which: SequentialDatapath, bits: &[bool]) -> Option<PreviousNow> {
     match which {
-        Datapath::Seq => None,
-        Datapath::Plus => Some(previous_of(bits)),
+        SequentialDatapath::Seq => None,
+        SequentialDatapath::SeqPlus => Some(previous_of(bits)),
     }
 }
 

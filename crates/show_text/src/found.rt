@@ -4,16 +4,17 @@ ghost use Rattle.std.specs.Str.{bytes_eq};
 
 use crate::instructions::{Instruction, instructions};
 use explanations::{
-    FaultKind, GROUP_COUNT, Obligation, Path, Staged, fault_kinds, obligation_at, obligation_count,
+    FaultKind, GROUP_COUNT, Obligation, Staged, fault_kinds, obligation_at, obligation_count,
     signal_group,
 };
 use finding_text::instruction;
+use hcl_types::Datapath;
 use std::alloc::{AllocError, Global};
 
 /// An obligation and its datapath.
 #[derive(Clone, Copy, Debug)]
 pub struct Demanded {
-    pub path: Path,
+    pub path: Datapath,
     pub obligation: &'static Obligation,
 }
 
@@ -63,7 +64,7 @@ fn is_asked(word: Option<&str>, name: &str) -> bool
 fn put_obligations(
     out: &mut Vec<Demanded>,
     word: Option<&str>,
-    path: Path,
+    path: Datapath,
     from: u32,
 ) -> Result<(), AllocError> {
     for k in from..obligation_count(path) {
@@ -105,9 +106,9 @@ fn put_faults(out: &mut Vec<Kind>, word: Option<&str>) -> Result<(), AllocError>
 /// `jXX`.
 pub fn found_of(alloc: Global, word: Option<&str>) -> Result<ShowMatches, AllocError> {
     let mut obligations: Vec<Demanded> = Vec::new(alloc);
-    put_obligations(&mut obligations, word, Path::Seq, 0)?;
-    put_obligations(&mut obligations, word, Path::SeqPlus, 15)?;
-    put_obligations(&mut obligations, word, Path::Pipe, 0)?;
+    put_obligations(&mut obligations, word, Datapath::Seq, 0)?;
+    put_obligations(&mut obligations, word, Datapath::SeqPlus, 15)?;
+    put_obligations(&mut obligations, word, Datapath::Pipe, 0)?;
     let mut own: Vec<Instruction> = Vec::new(alloc);
     let all = instructions(alloc)?;
     for it in all.as_slice() {

@@ -3,10 +3,10 @@ use crate::found::{Demanded, Kind, ShowMatches, group_of};
 use crate::instructions::Instruction;
 use crate::pages::{LANGUAGES, sentences};
 use crate::stages::{STAGES, field_name, put_layout, steps_of};
-use explanations::{Path, Staged};
+use explanations::Staged;
 use fault_report::Tables;
 use finding_text::{Out, put_number, put_text, put_truth, value_name};
-use hcl_types::Table;
+use hcl_types::{Datapath, Table};
 use std::alloc::{AllocError, Global};
 use y86_isa::{AluAColumn, AluBColumn, MemoryColumn, NextPcColumn, RegisterColumn};
 
@@ -37,9 +37,9 @@ fn put_obligation(out: &mut Out, it: &Demanded) -> Result<(), AllocError> {
         out,
         "datapaths",
         match it.path {
-            Path::Pipe => "pipe",
-            Path::SeqPlus => "seqplus",
-            Path::Seq => {
+            Datapath::Pipe => "pipe",
+            Datapath::SeqPlus => "seqplus",
+            Datapath::Seq => {
                 if o.label == "S16" {
                     "seq"
                 } else {

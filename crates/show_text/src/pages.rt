@@ -2,9 +2,10 @@
 use crate::found::{Demanded, Kind, ShowMatches};
 use crate::instructions::Instruction;
 use crate::stages::{STAGES, put_layout, steps_of};
-use explanations::{Path, Staged};
+use explanations::Staged;
 use fault_report::sentences_of;
 use finding_text::{put_lines, put_paragraph};
+use hcl_types::Datapath;
 use std::alloc::{AllocError, Global};
 use y86_base::Memory;
 
@@ -12,11 +13,11 @@ use y86_base::Memory;
 pub static LANGUAGES: [&str; 3] = ["HCL", "assembly", "object text"];
 
 /// The name of a datapath.
-fn path_name(path: Path) -> &'static str {
+fn path_name(path: Datapath) -> &'static str {
     match path {
-        Path::Seq => "SEQ",
-        Path::SeqPlus => "SEQ+",
-        Path::Pipe => "PIPE",
+        Datapath::Seq => "SEQ",
+        Datapath::SeqPlus => "SEQ+",
+        Datapath::Pipe => "PIPE",
     }
 }
 
@@ -221,7 +222,7 @@ pub fn put_names(alloc: Global, out: &mut String, all: &ShowMatches) -> Result<(
     out.push_str("y86-tell show WORD explains\n\n")?;
     let mut names = String::new(alloc);
     for it in all.obligations.as_slice() {
-        if it.path != Path::SeqPlus {
+        if it.path != Datapath::SeqPlus {
             put_name(&mut names, it.obligation.label)?;
         }
     }

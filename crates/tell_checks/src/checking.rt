@@ -6,10 +6,8 @@ use crate::pipe::explain_pipe;
 use crate::sequential::explain_sequential;
 use control_check::CheckFault;
 use ctl_atoms::CtlFault;
-use explanations::Path;
 use finding_text::{CasePlace, ExplainedFile, name_of};
-use hcl_types::{BoundDesign, Row};
-use seq_requirements::Datapath;
+use hcl_types::{BoundDesign, Datapath, Row, SequentialDatapath};
 use std::alloc::{AllocError, Global};
 use tell_faults::{HCL_LIMIT, Said, Stop, design_of, fault_stop, unread};
 use tell_words::CheckQuestion;
@@ -69,9 +67,15 @@ pub fn check<F: Files>(
     let cases = case_places(alloc, source.as_slice())?;
     let file = explained_file(&bound, cases.as_slice());
     let said = match asked.path {
-        Path::Pipe => explain_pipe(alloc, asked, &bound, &file),
-        Path::Seq => explain_sequential(alloc, Datapath::Seq, asked, &bound, &file),
-        Path::SeqPlus => explain_sequential(alloc, Datapath::Plus, asked, &bound, &file),
+        Datapath::Pipe => explain_pipe(alloc, asked, &bound, &file),
+        Datapath::Seq => explain_sequential(alloc, SequentialDatapath::Seq, asked, &bound, &file),
+        Datapath::SeqPlus => explain_sequential(
+            alloc,
+            SequentialDatapath::SeqPlus,
+            asked,
+            &bound,
+            &file,
+        ),
     };
     match said {
         Ok(said) => Ok(said),

@@ -2,18 +2,17 @@
 ghost use Rattle.std.specs.Prelude.{◌≡◌, ◌↔◌, IfOk, true};
 ghost use Rattle.hcl_types.specs.Tables.{IsBoundDesign};
 ghost use Rattle.seq_refusals.specs.Answered.{is_yes};
-ghost use Rattle.seq_requirements.specs.Datapaths.{rows_of};
+ghost use Rattle.seq_plus.specs.Datapaths.{rows_of};
 ghost use Rattle.tell_checks.specs.Explained.{SeqAnswers};
 
 use crate::yes::put_yes_facts;
 use control_check::CheckFault;
 use finding_text::{ExplainedFile, names_iaddq, put_unasked};
-use hcl_types::BoundDesign;
+use hcl_types::{BoundDesign, SequentialDatapath};
 use json::Writer;
 use seq_diagnosis::Refusal;
 use seq_refusal_text::{put_seq_refusal, put_seq_refusal_json, put_seq_yes};
 use seq_refusals::{SeqAnswer, diagnose_seq};
-use seq_requirements::Datapath;
 use std::alloc::{AllocError, Global};
 use tell_faults::{Said, json_text};
 use tell_words::CheckQuestion;
@@ -22,7 +21,7 @@ use y86_base::Variant;
 /// The verdict on a design, and the diagnosis of a refusal.
 fn answer_sequential(
     alloc: Global,
-    which: Datapath,
+    which: SequentialDatapath,
     variant: Variant,
     bound: &BoundDesign,
 ) -> Result<SeqAnswer, CheckFault>
@@ -35,7 +34,7 @@ fn answer_sequential(
 /// The output for an accepted file.
 fn yes_text(
     alloc: Global,
-    which: Datapath,
+    which: SequentialDatapath,
     asked: CheckQuestion,
     file: &ExplainedFile<'_>,
 ) -> Result<Vec<u8>, AllocError> {
@@ -56,7 +55,7 @@ fn yes_text(
 /// The output for a refusal.
 fn no_text(
     alloc: Global,
-    which: Datapath,
+    which: SequentialDatapath,
     asked: CheckQuestion,
     file: &ExplainedFile<'_>,
     refusal: &Refusal,
@@ -74,7 +73,7 @@ fn no_text(
 /// The output for an answer.
 fn answer_text(
     alloc: Global,
-    which: Datapath,
+    which: SequentialDatapath,
     asked: CheckQuestion,
     file: &ExplainedFile<'_>,
     answer: &SeqAnswer,
@@ -96,7 +95,7 @@ fn answer_text(
 /// Explains the verdict on a design for SEQ or SEQ+.
 pub fn explain_sequential(
     alloc: Global,
-    which: Datapath,
+    which: SequentialDatapath,
     asked: CheckQuestion,
     bound: &BoundDesign,
     file: &ExplainedFile<'_>,

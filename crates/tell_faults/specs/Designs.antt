@@ -1,21 +1,11 @@
 -- The design of an HCL text.
 use Rattle.std.specs.Prelude.{ℕ, ◌≡◌, List, Ok}
-use Rattle.explanations.specs.declared.obligations.Path.{Path}
-use Rattle.explanations.specs.declared.obligations.Path.TheVariants.{Seq, SeqPlus, Pipe}
 use Rattle.hcl_read.specs.Read.{ReadsAs}
 use Rattle.hcl_tree.specs.declared.tree.File.{File}
 use Rattle.hcl_binding.specs.Binding.{bound}
 use Rattle.hcl_types.specs.declared.table.Row.{Row}
 use Rattle.hcl_types.specs.declared.term.Term.{Term}
 use Rattle.dp_signals.specs.PipeTable.{pipe_rows}
-use Rattle.dp_signals.specs.SeqTable.{seq_rows}
-use Rattle.seq_plus.specs.PlusTable.{plus_rows}
-
--- the table of signals of a datapath
-abbrev pub rows_of : Path → List Row
-rows_of Seq = seq_rows
-rows_of SeqPlus = plus_rows
-rows_of Pipe = pipe_rows
 
 -- the text is a file that has this design over a table
 pub record HasDesignOver (rows : List Row) (text : List ℕ) (terms : List Term) : Type 0 where

@@ -1,27 +1,26 @@
 //! The tables of signals of the three datapaths.
 ghost use Rattle.std.specs.Prelude.{◌≡◌, IfOk};
 ghost use Rattle.hcl_types.specs.Tables.{IsSound};
-ghost use Rattle.tell_faults.specs.Designs.{rows_of};
+ghost use Rattle.seq_plus.specs.Datapaths.{table_rows};
 
 use dp_signals::{law_of_tables, pipe_table, seq_table};
-use explanations::Path;
 use fault_report::Tables;
-use hcl_types::Table;
+use hcl_types::{Datapath, Table};
 use seq_plus::{law_of_table, plus_table};
 use std::alloc::Global;
 use y86_base::Memory;
 
 /// The table of a datapath.
-pub fn table_of(alloc: Global, path: Path) -> Result<Table, Memory>
-    ensures rows { IfOk result (λ table. table.rows ≡ rows_of path) }
+pub fn table_of(alloc: Global, path: Datapath) -> Result<Table, Memory>
+    ensures rows { IfOk result (λ table. table.rows ≡ table_rows path) }
     ensures sound { IfOk result (λ table. IsSound table.rows) }
 {
     law_of_tables();
     law_of_table();
     match path {
-        Path::Seq => seq_table(alloc),
-        Path::SeqPlus => plus_table(alloc),
-        Path::Pipe => pipe_table(alloc),
+        Datapath::Seq => seq_table(alloc),
+        Datapath::SeqPlus => plus_table(alloc),
+        Datapath::Pipe => pipe_table(alloc),
     }
 }
 
@@ -31,9 +30,9 @@ pub fn tables(alloc: Global) -> Result<Tables, Memory>
     ensures seq_plus { IfOk result (λ t. IsSound t.seq_plus.rows) }
     ensures pipe { IfOk result (λ t. IsSound t.pipe.rows) }
 {
-    let seq = table_of(alloc, Path::Seq)?;
-    let seq_plus = table_of(alloc, Path::SeqPlus)?;
-    let pipe = table_of(alloc, Path::Pipe)?;
+    let seq = table_of(alloc, Datapath::Seq)?;
+    let seq_plus = table_of(alloc, Datapath::SeqPlus)?;
+    let pipe = table_of(alloc, Datapath::Pipe)?;
     Ok(Tables {
         seq,
         seq_plus,

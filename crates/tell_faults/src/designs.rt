@@ -1,16 +1,16 @@
 //! The design of an HCL text, or why there is none.
 ghost use Rattle.std.specs.Prelude.{IfOk};
 ghost use Rattle.hcl_types.specs.Tables.{IsBoundDesign, IsSound};
-ghost use Rattle.tell_faults.specs.Designs.{HasDesignOver, rows_of};
+ghost use Rattle.tell_faults.specs.Designs.{HasDesignOver};
+ghost use Rattle.seq_plus.specs.Datapaths.{table_rows};
 
 use crate::datapaths::table_of;
 use crate::faulty::{hcl_faults_of, report_stop};
 use crate::stop::Stop;
-use explanations::Path;
 use hcl_binding::{BindWhy, bind};
 use hcl_order::{OrderFault, order};
 use hcl_read::{HclWhy, read};
-use hcl_types::{BoundDesign, OrderedDesign, Table};
+use hcl_types::{BoundDesign, Datapath, OrderedDesign, Table};
 use std::alloc::Global;
 
 /// Why a text has no design.
@@ -57,9 +57,9 @@ fn design_over(alloc: Global, source: &[u8], table: Table) -> Result<BoundDesign
 }
 
 /// The design of an HCL text for a datapath.
-pub fn design_of(alloc: Global, path: Path, source: &[u8]) -> Result<BoundDesign, NoDesign>
-    ensures design { IfOk result (λ bound. HasDesignOver (rows_of path) source.now bound.ordered.design.terms) }
-    ensures ordered { IfOk result (IsBoundDesign (rows_of path)) }
+pub fn design_of(alloc: Global, path: Datapath, source: &[u8]) -> Result<BoundDesign, NoDesign>
+    ensures design { IfOk result (λ bound. HasDesignOver (table_rows path) source.now bound.ordered.design.terms) }
+    ensures ordered { IfOk result (IsBoundDesign (table_rows path)) }
 {
     match table_of(alloc, path) {
         Ok(table) => design_over(alloc, source, table),
@@ -68,7 +68,13 @@ pub fn design_of(alloc: Global, path: Path, source: &[u8]) -> Result<BoundDesign
 }
 
 /// The stop at a text without a design: every fault of it.
-pub fn fault_stop(alloc: Global, file: &str, source: &[u8], path: Path, fault: &NoDesign) -> Stop {
+pub fn fault_stop(
+    alloc: Global,
+    file: &str,
+    source: &[u8],
+    path: Datapath,
+    fault: &NoDesign,
+) -> Stop {
     match fault {
         NoDesign::Memory => Stop::Memory,
         NoDesign::Refused => report_stop(alloc, file, hcl_faults_of(alloc, source, Some(path))),

@@ -6,9 +6,9 @@ ghost use Rattle.tell_faults.specs.Faults as spec;
 use crate::datapaths::tables;
 use crate::said::Said;
 use crate::stop::{Stop, unread};
-use explanations::Path;
 use fault_output::{report_json, report_text};
-use fault_report::{Datapath, Report, assembly_report, hcl_report, object_report};
+use fault_report::{Report, assembly_report, hcl_report, object_report};
+use hcl_types::Datapath;
 use std::alloc::Global;
 use tell_words::FaultQuestion;
 use wb_io::Files;
@@ -52,20 +52,14 @@ fn kind_of(file: &str) -> Kind {
     }
 }
 
-/// The datapath that is asked for, as reports name it.
-fn datapath_of(asked: Option<Path>) -> Option<Datapath> {
-    match asked {
-        Some(Path::Seq) => Some(Datapath::Seq),
-        Some(Path::SeqPlus) => Some(Datapath::SeqPlus),
-        Some(Path::Pipe) => Some(Datapath::Pipe),
-        None => None,
-    }
-}
-
 /// The faults of an HCL text, for the datapath that is asked for, or for the one whose names fit best.
-pub fn hcl_faults_of(alloc: Global, text: &[u8], asked: Option<Path>) -> Result<Report, Memory> {
+pub fn hcl_faults_of(
+    alloc: Global,
+    text: &[u8],
+    asked: Option<Datapath>,
+) -> Result<Report, Memory> {
     let tables = tables(alloc)?;
-    hcl_report(alloc, text, &tables, datapath_of(asked))
+    hcl_report(alloc, text, &tables, asked)
 }
 
 /// The faults of a text.

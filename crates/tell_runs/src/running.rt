@@ -5,9 +5,8 @@ ghost use Rattle.run_report.specs.declared.outcome.Outcome.{Outcome};
 ghost use Rattle.y86_base.specs.Image.{IsSize};
 ghost use Rattle.tell_runs.specs.Running.{IsRun};
 
-use explanations::Path;
 use fault_report::is_source;
-use hcl_types::{BoundDesign, Row, Table};
+use hcl_types::{BoundDesign, Datapath, Row, Table};
 use json::Writer;
 use run_report::{
     Judged, Outcome, OutcomeRequest, object_outcome, outcome_status, put_outcome, put_outcome_json,
@@ -44,7 +43,7 @@ fn run_texts(alloc: Global, source: &[u8], object: &[u8], asked: &RunQuestion) -
     ensures run { IfOk result (λ run. IsRun asked.now.variant source.now object.now asked.now.size asked.now.limit run.outcome) }
     ensures asked { IfOk result (λ run. (asked.now.checked ≡ true) ↔ (run.outcome.judged ≢ Judged.Unasked)) }
 {
-    let bound = match design_of(alloc, Path::Pipe, source) {
+    let bound = match design_of(alloc, Datapath::Pipe, source) {
         Ok(bound) => bound,
         Err(fault) => return Err(NoRun::Design(fault)),
     };
@@ -118,7 +117,7 @@ pub fn tell_run<F: Files>(
             alloc,
             hcl,
             source.as_slice(),
-            Path::Pipe,
+            Datapath::Pipe,
             &fault,
         )),
         Err(NoRun::Object(fault)) => Err(object_stop(

@@ -1,7 +1,7 @@
 //! The arguments of a call.
 use crate::questions::{CheckQuestion, FaultQuestion, ProgramQuestion, RunQuestion};
 use clap::{Arg, ArgAction, ArgMatches, Command, Error};
-use explanations::Path;
+use hcl_types::Datapath;
 use std::alloc::{AllocError, Global};
 use y86_base::Variant;
 
@@ -181,16 +181,16 @@ fn command<'a>(alloc: Global) -> Result<Command<'a>, AllocError> {
 }
 
 /// The datapath with this name.
-fn path_of(name: &str) -> Path {
+fn path_of(name: &str) -> Datapath {
     match name {
-        "seq" => Path::Seq,
-        "seqplus" => Path::SeqPlus,
-        _ => Path::Pipe,
+        "seq" => Datapath::Seq,
+        "seqplus" => Datapath::SeqPlus,
+        _ => Datapath::Pipe,
     }
 }
 
 /// The datapath that is asked for, if there is one.
-fn asked_path(name: Option<&str>) -> Option<Path> {
+fn asked_path(name: Option<&str>) -> Option<Datapath> {
     match name {
         Some(name) => Some(path_of(name)),
         None => None,

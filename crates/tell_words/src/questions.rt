@@ -2,14 +2,14 @@
 ghost use Rattle.std.specs.Prelude.{◌≡◌, ◌<◌, ◌^◌, true};
 ghost use Rattle.y86_base.specs.Image.{IsSize};
 
-use explanations::Path;
+use hcl_types::Datapath;
 use y86_base::Variant;
 
 /// The parameters of `check` apart from its file.
 #[derive(Clone, Copy, Debug)]
 pub struct CheckQuestion {
     /// The datapath that the file is for.
-    pub path: Path,
+    pub path: Datapath,
     /// The instruction set.
     pub variant: Variant,
     /// Whether the answer is printed as JSON.
@@ -20,7 +20,7 @@ pub struct CheckQuestion {
 #[derive(Clone, Copy, Debug)]
 pub struct FaultQuestion {
     /// The datapath that an HCL file is for; without one, the datapath whose names fit best.
-    pub path: Option<Path>,
+    pub path: Option<Datapath>,
     /// The instruction set that a source is assembled for.
     pub variant: Variant,
     /// The bytes of memory.

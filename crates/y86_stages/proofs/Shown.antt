@@ -10,9 +10,9 @@ use Rattle.cli_plans.specs.Plan.{done}
 use Rattle.cli_plans.specs.declared.stop_reason.StopReason as code
 use Rattle.cli_plans.proofs.Does.{says_more}
 use Rattle.y86_stages.specs.ShowAnswers.{ShownAnswers, Shows}
-use Rattle.y86_stages.specs.declared.reading.Processor.{Processor}
+use Rattle.hcl_types.specs.declared.table.Datapath.{Datapath}
 
-pub shown_says : (processor : Processor) (v : Variant) (terms : List Term) (listing : ℕ → Option (List ℕ)) (limit : ℕ) (window : CycleRange) (image : List ℕ)
+pub shown_says : (processor : Datapath) (v : Variant) (terms : List Term) (listing : ℕ → Option (List ℕ)) (limit : ℕ) (window : CycleRange) (image : List ℕ)
     (text : List ℕ) (end : Stat) (status : ℕ) (old new : SinkState) (result : Result ℕ code.StopReason) → Shows processor v terms listing limit window image text end →
     status ≡ run_status end → WritesAnswer (λ a. a ≡ done status text) old new result → WritesAnswer (ShownAnswers processor v terms listing limit window image) old new result
 shown_says processor v terms listing limit window image text end status old new result shows status_is said =

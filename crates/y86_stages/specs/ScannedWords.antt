@@ -6,14 +6,14 @@ use Rattle.pipe_stage_text.specs.declared.observer.CycleRange.{CycleRange}
 use Rattle.y86_words.specs.Numbers.{number_within}
 use Rattle.y86_stages.specs.declared.reading.ShowOption.{ShowOption}
 use Rattle.y86_stages.specs.declared.reading.ShowOption.TheVariants.{Diagram, From, OnSeq, OnSeqPlus, To}
-use Rattle.y86_stages.specs.declared.reading.Processor.{Processor}
-use Rattle.y86_stages.specs.declared.reading.Processor.TheVariants.{Pipe, Seq, SeqPlus}
+use Rattle.hcl_types.specs.declared.table.Datapath.{Datapath}
+use Rattle.hcl_types.specs.declared.table.Datapath.TheVariants.{Pipe, Seq, SeqPlus}
 use Rattle.y86_stages.specs.declared.reading.ScannedArguments as code
 
 -- what was read: the words of `psim`, beginning with its name, the options, and an option whose number is the next word
 pub record Scanned : Type 0 where
   pub words : List (List ℕ)
-  pub processor : Processor
+  pub processor : Datapath
   pub diagram : Bool
   pub from : Option ℕ
   pub to : Option ℕ
@@ -51,7 +51,7 @@ with_number r To n = record r { to = Some n; wants = None }
 with_number r OnSeq n = record r { wants = None }
 with_number r OnSeqPlus n = record r { wants = None }
 
-abbrev pub is_pipe : Processor → Bool
+abbrev pub is_pipe : Datapath → Bool
 is_pipe Pipe = true
 is_pipe Seq = false
 is_pipe SeqPlus = false

@@ -9,8 +9,8 @@ use Rattle.cli_plans.specs.declared.stop_reason.StopReason as code
 use Rattle.cli_plans.specs.declared.stop_reason.StopReason.TheVariants.{Memory, Usage}
 use Rattle.y86_words.specs.Forms.{Command, form_of, psim}
 use Rattle.y86_stages.specs.declared.request.RunRequest as code_request
-use Rattle.y86_stages.specs.declared.reading.Processor.{Processor}
-use Rattle.y86_stages.specs.declared.reading.Processor.TheVariants.{Pipe}
+use Rattle.hcl_types.specs.declared.table.Datapath.{Datapath}
+use Rattle.hcl_types.specs.declared.table.Datapath.TheVariants.{Pipe}
 use Rattle.y86_stages.specs.ShowAnswers.{stages_plan}
 use Rattle.y86_stages.specs.ScannedWords.{Scanned, first_read, window_of}
 
@@ -40,7 +40,7 @@ abbrev pub request_in : code_request.RunRequest → Request
 request_in r = record { name = r.hcl.now; object = r.object.now; size = r.memory; limit = r.limit; variant = r.variant }
 
 -- the run is shown; or there is none, and nothing is read or written
-unfoldable pub ShowOutcome : Processor → Option Request → CycleRange → FilesState → FilesState → SinkState → SinkState → Result ℕ code.StopReason → Type 0
+unfoldable pub ShowOutcome : Datapath → Option Request → CycleRange → FilesState → FilesState → SinkState → SinkState → Result ℕ code.StopReason → Type 0
 ShowOutcome processor None window files_before files_after before after result = (result ≡ Err Usage) × (files_after ≡ files_before) × (after ≡ before)
 ShowOutcome processor (Some r) window files_before files_after before after result =
     FollowsPlan (stages_plan processor r.name r.object r.size r.limit r.variant window) files_before files_after before after result

@@ -14,10 +14,11 @@ ghost use Rattle.y86_stages.specs.ShowContract as spec;
 ghost use Rattle.y86_stages.specs.ScannedWords.{read_in, read_of};
 ghost use Rattle.y86_stages.specs.ScannedWords as reading;
 
-use crate::reading::{Processor, ScannedArguments, read_words};
+use crate::reading::{ScannedArguments, read_words};
 use crate::request::{RunRequest, ShowRequest};
 use crate::running::show;
 use cli_plans::{Status, StopReason, report_stop, unreadable, words_behind};
+use hcl_types::Datapath;
 use pipe_stage_text::CycleRange;
 use std::alloc::Global;
 use std::env::Args;
@@ -72,7 +73,7 @@ fn request_of<'a>(command: Cmd<'a>) -> Option<RunRequest<'a>>
 #[tactic(auto, unfolding(crate::specs::ShowContract::ShowOutcome))]
 fn show_words<'a, F: Files, O: Sink>(
     alloc: Global,
-    processor: Processor,
+    processor: Datapath,
     psim_words: &'a [String],
     window: &CycleRange,
     files: &mut F,

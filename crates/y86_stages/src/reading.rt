@@ -3,17 +3,10 @@ ghost use Rattle.std.specs.Prelude.{◌≡◌, IfOk, OnOk, map, string_bytes};
 ghost use Rattle.std.specs.Option.{option_map};
 ghost use Rattle.y86_stages.specs.ScannedWords as spec;
 
+use hcl_types::Datapath;
 use std::alloc::Global;
 use y86_base::{Memory, push};
 use y86_words::number_within;
-
-/// The processor whose cycles are shown.
-#[derive(Clone, Copy, Debug, PartialEq, Eq)]
-pub enum Processor {
-    Pipe,
-    Seq,
-    SeqPlus,
-}
 
 /// An option that selects what is shown.
 #[derive(Clone, Copy, Debug, PartialEq, Eq)]
@@ -35,7 +28,7 @@ pub enum ShowOption {
 #[derive(Drop)]
 pub struct ScannedArguments {
     pub words: Vec<String>,
-    pub processor: Processor,
+    pub processor: Datapath,
     pub diagram: bool,
     pub from: Option<u64>,
     pub to: Option<u64>,
@@ -88,10 +81,10 @@ fn read_number(r: &mut ScannedArguments, own: ShowOption, word: &str) -> bool
 }
 
 /// Whether the processor is PIPE.
-fn is_pipe(processor: Processor) -> bool
+fn is_pipe(processor: Datapath) -> bool
     ensures { result ≡ spec.is_pipe processor }
 {
-    matches!(processor, Processor::Pipe)
+    matches!(processor, Datapath::Pipe)
 }
 
 /// Reads an option, and returns whether it occurs for the first time.
@@ -121,13 +114,13 @@ fn read_option(r: &mut ScannedArguments, own: ShowOption) -> bool
             if !is_pipe(r.processor) {
                 return false;
             }
-            r.processor = Processor::Seq;
+            r.processor = Datapath::Seq;
         }
         ShowOption::OnSeqPlus => {
             if !is_pipe(r.processor) {
                 return false;
             }
-            r.processor = Processor::SeqPlus;
+            r.processor = Datapath::SeqPlus;
         }
     }
     true
@@ -171,7 +164,7 @@ fn first_reading(alloc: Global) -> Result<ScannedArguments, Memory>
     push(&mut words, name)?;
     Ok(ScannedArguments {
         words,
-        processor: Processor::Pipe,
+        processor: Datapath::Pipe,
         diagram: false,
         from: None,
         to: None,

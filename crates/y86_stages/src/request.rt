@@ -1,5 +1,5 @@
 //! The parameters of a call.
-use crate::reading::Processor;
+use hcl_types::Datapath;
 use pipe_stage_text::CycleRange;
 use y86_base::Variant;
 
@@ -22,7 +22,7 @@ pub struct RunRequest<'a> {
 #[derive(Clone, Copy, Debug)]
 pub struct ShowRequest<'a> {
     /// The processor that runs the object file.
-    pub processor: Processor,
+    pub processor: Datapath,
     /// The files, and how the object file is run.
     pub run: RunRequest<'a>,
     /// Which cycles are shown.

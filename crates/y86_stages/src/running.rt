@@ -3,20 +3,19 @@ ghost use Rattle.std.specs.Prelude.{◌≡◌, ◌≤◌, IfOk};
 ghost use Rattle.hcl_types.specs.Tables.{IsBoundDesign};
 ghost use Rattle.y86_base.specs.Image.{IsSize};
 ghost use Rattle.pipe_stage_text.specs.Listed.{listed};
+ghost use Rattle.seq_plus.specs.Datapaths.{table_rows};
 ghost use Rattle.cli_plans.specs.Stages.{hcl_limit};
 ghost use Rattle.cli_plans.specs.Designs.{IsDesign, RefusesDesign};
 ghost use Rattle.cli_plans.specs.PlanFollowing.{FollowsPlanOver, IsReadResultIn, WritesAnswer, files_state, sink_state};
-ghost use Rattle.y86_stages.specs.ShowAnswers.{ShownAnswers, Shows, object_plan, rows_of, stages_plan};
+ghost use Rattle.y86_stages.specs.ShowAnswers.{ShownAnswers, Shows, object_plan, stages_plan};
 
-use crate::reading::Processor;
 use crate::request::ShowRequest;
 use cli_plans::{
-    Datapath, FILE_LIMIT, StopReason, load_image, pipe_file, read_file, seq_file, status,
-    write_answer,
+    FILE_LIMIT, StopReason, load_image, pipe_file, read_file, seq_file, status, write_answer,
 };
 use dp_signals::{SEQ_ROWS, SeqState, constant_words};
 use hcl_compile::compile;
-use hcl_types::BoundDesign;
+use hcl_types::{BoundDesign, Datapath, SequentialDatapath};
 use pipe_stage_text::{ObservedRun, ProcessorDesign, WatchRequest, watch_run};
 use seq_plus::{PLUS_ROWS, PlusState};
 use seq_text::watch_sequential;
@@ -27,18 +26,18 @@ use y86_base::{Image, Memory};
 /// The design of an HCL file for a processor.
 fn design_file<'a, F: Files>(
     alloc: Global,
-    processor: Processor,
+    processor: Datapath,
     name: &'a str,
     files: &mut F,
 ) -> Result<BoundDesign, StopReason<'a>>
-    ensures design { IsReadResultIn name.now hcl_limit (IsDesign (rows_of processor)) (RefusesDesign name.now (rows_of processor)) (λ bound. bound.ordered.design.terms)
+    ensures design { IsReadResultIn name.now hcl_limit (IsDesign (table_rows processor)) (RefusesDesign name.now (table_rows processor)) (λ bound. bound.ordered.design.terms)
         (files_state (F.told files.old) (F.faults files.old)) (files_state (F.told files.new) (F.faults files.new)) result }
-    ensures ordered { IfOk result (IsBoundDesign (rows_of processor)) }
+    ensures ordered { IfOk result (IsBoundDesign (table_rows processor)) }
 {
     match processor {
-        Processor::Pipe => pipe_file(alloc, name, files),
-        Processor::Seq => seq_file(alloc, Datapath::Seq, name, files),
-        Processor::SeqPlus => seq_file(alloc, Datapath::Plus, name, files),
+        Datapath::Pipe => pipe_file(alloc, name, files),
+        Datapath::Seq => seq_file(alloc, SequentialDatapath::Seq, name, files),
+        Datapath::SeqPlus => seq_file(alloc, SequentialDatapath::SeqPlus, name, files),
     }
 }
 
@@ -51,7 +50,7 @@ fn watch(
     object: &[u8],
     image: Image,
 ) -> Result<ObservedRun, Memory>
-    requires ordered { IsBoundDesign (rows_of request.processor) bound.now }
+    requires ordered { IsBoundDesign (table_rows request.processor) bound.now }
     requires limit { request.run.limit ≤ 100000000 }
     ensures { IfOk result (λ w. Shows request.entry.processor request.entry.run.variant bound.now.ordered.design.terms (listed object.now)
         request.entry.run.limit request.entry.window image w.text.items w.end) }
@@ -70,11 +69,11 @@ fn watch(
         window: request.window,
     };
     match request.processor {
-        Processor::Pipe => watch_run(alloc, &processor, &mut compiled, object, watched),
-        Processor::Seq => {
+        Datapath::Pipe => watch_run(alloc, &processor, &mut compiled, object, watched),
+        Datapath::Seq => {
             watch_sequential::<SeqState, _, SEQ_ROWS>(alloc, &processor, &mut compiled, watched)
         }
-        Processor::SeqPlus => {
+        Datapath::SeqPlus => {
             watch_sequential::<PlusState, _, PLUS_ROWS>(alloc, &processor, &mut compiled, watched)
         }
     }
@@ -89,7 +88,7 @@ fn show_image<'a, O: Sink>(
     image: Image,
     out: &mut O,
 ) -> Result<u8, StopReason<'a>>
-    requires ordered { IsBoundDesign (rows_of request.processor) bound.now }
+    requires ordered { IsBoundDesign (table_rows request.processor) bound.now }
     requires limit { request.run.limit ≤ 100000000 }
     ensures { WritesAnswer (ShownAnswers request.entry.processor request.entry.run.variant bound.now.ordered.design.terms (listed object.now)
         request.entry.run.limit request.entry.window image)
@@ -111,7 +110,7 @@ fn show_object<'a, F: Files, O: Sink>(
 ) -> Result<u8, StopReason<'a>>
     requires size { IsSize request.run.memory }
     requires limit { request.run.limit ≤ 100000000 }
-    requires ordered { IsBoundDesign (rows_of request.processor) bound.now }
+    requires ordered { IsBoundDesign (table_rows request.processor) bound.now }
     ensures { FollowsPlanOver F.told F.faults O.taken O.faults (object_plan request.entry.processor bound.now.ordered.design.terms
         request.entry.run.object.now request.entry.run.memory request.entry.run.limit request.entry.run.variant request.entry.window)
         files.old files.new out.old out.new result }

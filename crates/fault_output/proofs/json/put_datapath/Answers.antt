@@ -1,6 +1,6 @@
 use Rattle.std.proofs.Common.{◌≡◌, ◌++◌, ℕ, List, codes, OnOk, Option, Some, append_assoc, sym, subst}
 use Rattle.fault_report.specs.Datapaths.{datapath_name}
-use Rattle.fault_report.specs.declared.facts.Datapath.{Datapath}
+use Rattle.hcl_types.specs.declared.table.Datapath.{Datapath}
 use Rattle.fault_output.specs.Json.{datapath_text, string_text}
 use Rattle.fault_output.proofs.json.put_datapath.Goals as goal
 
