@@ -11,25 +11,26 @@ use Rattle.net_fields.specs.FieldSpecs.{total}
 use Rattle.findings.specs.Findings.{are_right, finding}
 use Rattle.findings.proofs.EachMet.{demand_false, findings_right}
 use Rattle.seq_plus.specs.Sound.{plus_sound}
-use Rattle.seq_requirements.specs.Datapaths.{allowed_of, defined_of, demand_of, rows_of, spots_of}
+use Rattle.seq_requirements.specs.Datapaths.{allowed_of, defined_of, demand_of, spots_of}
+use Rattle.seq_plus.specs.Datapaths.{rows_of}
 use Rattle.seq_requirements.specs.Requirements.{requirements}
-use Rattle.seq_requirements.specs.declared.datapath.Datapath.{Datapath}
-use Rattle.seq_requirements.specs.declared.datapath.Datapath.TheVariants.{Seq, Plus}
+use Rattle.hcl_types.specs.declared.table.SequentialDatapath.{SequentialDatapath}
+use Rattle.hcl_types.specs.declared.table.SequentialDatapath.TheVariants.{Seq, SeqPlus}
 use Rattle.seq_requirements.proofs.ByRequirements.{by_requirements}
 use Rattle.seq_diagnosis.specs.Diagnosis.{asks_at, numbers_at}
 
-pub sound : (which : Datapath) → IsSound (rows_of which)
+pub sound : (which : SequentialDatapath) → IsSound (rows_of which)
 sound Seq = seq_sound
-sound Plus = plus_sound
+sound SeqPlus = plus_sound
 
-pub near : (which : Datapath) → AreNear (spots_of which)
+pub near : (which : SequentialDatapath) → AreNear (spots_of which)
 near Seq = record { few = (omega arith, (omega arith, (omega arith, (omega arith, (omega arith, (omega arith, (omega arith, tt))))))); near = omega arith }
-near Plus = record { few = (omega arith, (omega arith, (omega arith, (omega arith, (omega arith, (omega arith, (omega arith, (omega arith, (omega arith, tt))))))))); near = omega arith }
+near SeqPlus = record { few = (omega arith, (omega arith, (omega arith, (omega arith, (omega arith, (omega arith, (omega arith, (omega arith, (omega arith, tt))))))))); near = omega arith }
 
-pub first_near : (which : Datapath) → total (spots_of which) ≤ 1000
+pub first_near : (which : SequentialDatapath) → total (spots_of which) ≤ 1000
 first_near which = (near which).near
 
-pub one_wrong : (which : Datapath) (v : Variant) (terms : List Term) (i : ℕ) (w : List Bool) (α : Assignment) (cv : ℕ → Leaf) → asks_at which v i w α cv ≡ false →
+pub one_wrong : (which : SequentialDatapath) (v : Variant) (terms : List Term) (i : ℕ) (w : List Bool) (α : Assignment) (cv : ℕ → Leaf) → asks_at which v i w α cv ≡ false →
     are_right (map (finding (defined_of which) terms α cv) (requirements which v (numbers_at which w) i)) ≡ false
 one_wrong which v terms i w α cv e =
     let xs = numbers_at which w in

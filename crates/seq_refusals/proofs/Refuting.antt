@@ -27,20 +27,21 @@ use Rattle.ctl_verdicts.specs.ObligationSet.{AreRulesOfSet, IsFalseAtBits, Meets
 use Rattle.ctl_verdicts.specs.declared.decision.FailedRule.{FailedRule}
 use Rattle.ctl_verdicts.proofs.Answered.{verdict_by}
 use Rattle.ctl_verdicts.proofs.Decided.{no_rule}
-use Rattle.seq_requirements.specs.Datapaths.{questions_of, rows_of, spots_of}
-use Rattle.seq_requirements.specs.declared.datapath.Datapath.{Datapath}
-use Rattle.seq_requirements.specs.declared.datapath.Datapath.TheVariants.{Seq, Plus}
+use Rattle.seq_requirements.specs.Datapaths.{questions_of, spots_of}
+use Rattle.seq_plus.specs.Datapaths.{rows_of}
+use Rattle.hcl_types.specs.declared.table.SequentialDatapath.{SequentialDatapath}
+use Rattle.hcl_types.specs.declared.table.SequentialDatapath.TheVariants.{Seq, SeqPlus}
 use Rattle.seq_diagnosis.specs.Diagnosis as diagnosis
 use Rattle.seq_diagnosis.specs.declared.refusal.Refutation.{Refutation}
 use Rattle.seq_refusals.specs.Answered.{Accepts, AreRefuted, Everywhere, IsRefutation, Refines, Rejects, is_refuted}
 use Rattle.seq_refusals.specs.Failures.{AreRulesOf, IsFailure}
 
 -- the rules as those of the datapath's obligations
-own_rules : (which : Datapath) (v : Variant) (terms : List Term) (net : Gates) (list : List Rule) → AreRulesOf which v terms net list → AreRulesOfSet (questions_of which v) terms net list
+own_rules : (which : SequentialDatapath) (v : Variant) (terms : List Term) (net : Gates) (list : List Rule) → AreRulesOf which v terms net list → AreRulesOfSet (questions_of which v) terms net list
 unfolding seq_fields_of plus_fields_of
 own_rules Seq v terms net list r =
     record { atoms = r.atoms; are = r.are; vars = r.vars; count = r.count; each = λ k x e. record { number = (r.each k x e).number; within = (r.each k x e).within; is = (r.each k x e).is } }
-own_rules Plus v terms net list r =
+own_rules SeqPlus v terms net list r =
     record { atoms = r.atoms; are = r.are; vars = r.vars; count = r.count; each = λ k x e. record { number = (r.each k x e).number; within = (r.each k x e).within; is = (r.each k x e).is } }
 
 -- obligation i alone
@@ -78,24 +79,24 @@ one_false net list k r failure at d = record {
     same = only_one d.0 d.1 (d.2).there
 
 -- the machine of an accepted design runs as the instructions do
-pub refines : (which : Datapath) (v : Variant) (terms : List Term) (ids : List ℕ) → IsBound (rows_of which) terms → IsOrderOf (rows_of which) terms ids → Accepts which v terms → Refines which v terms
+pub refines : (which : SequentialDatapath) (v : Variant) (terms : List Term) (ids : List ℕ) → IsBound (rows_of which) terms → IsOrderOf (rows_of which) terms ids → Accepts which v terms → Refines which v terms
 refines Seq v terms ids bound ordered a = seq_refines v terms ids bound ordered a.holds
-refines Plus v terms ids bound ordered a = plus_refines v terms ids bound ordered a.holds
+refines SeqPlus v terms ids bound ordered a = plus_refines v terms ids bound ordered a.holds
 
-module _ (which : Datapath) (v : Variant) (terms : List Term) (net : Gates) (list : List Rule) (ids : List ℕ) (ordered : IsOrderOf (rows_of which) terms ids) (rules : AreRulesOf which v terms net list) where
+module _ (which : SequentialDatapath) (v : Variant) (terms : List Term) (net : Gates) (list : List Rule) (ids : List ℕ) (ordered : IsOrderOf (rows_of which) terms ids) (rules : AreRulesOf which v terms net list) where
   pub accepts : IsRuleDecision net list None → Accepts which v terms
   accepts d = by which ordered rules
     where
-      by : (p : Datapath) → IsOrderOf (rows_of p) terms ids → AreRulesOf p v terms net list → Accepts p v terms
+      by : (p : SequentialDatapath) → IsOrderOf (rows_of p) terms ids → AreRulesOf p v terms net list → Accepts p v terms
       by Seq o r = seq_verdict.accepts v terms net list ids o r d
-      by Plus o r = plus_verdict.accepts v terms net list ids o r d
+      by SeqPlus o r = plus_verdict.accepts v terms net list ids o r d
 
   pub rejects : (failure : FailedRule) → IsRuleDecision net list (Some failure) → Rejects which v terms failure.rule failure.valuation.bits
   rejects failure d = by which ordered rules
     where
-      by : (p : Datapath) → IsOrderOf (rows_of p) terms ids → AreRulesOf p v terms net list → Rejects p v terms failure.rule failure.valuation.bits
+      by : (p : SequentialDatapath) → IsOrderOf (rows_of p) terms ids → AreRulesOf p v terms net list → Rejects p v terms failure.rule failure.valuation.bits
       by Seq o r = seq_verdict.rejects v terms net list ids o r failure d
-      by Plus o r = plus_verdict.rejects v terms net list ids o r failure d
+      by SeqPlus o r = plus_verdict.rejects v terms net list ids o r failure d
 
   abbrev own : AreRulesOfSet (questions_of which v) terms net list
   own = own_rules which v terms net list rules

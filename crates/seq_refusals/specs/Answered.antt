@@ -18,9 +18,10 @@ use Rattle.seq_plus_check.specs.Accepted.{RefinesPlus}
 use Rattle.seq_plus_check.specs.Verdicts.{AcceptsPlus, RejectsPlus}
 use Rattle.control_check.specs.SeqVerdicts.{AcceptsSeq, RejectsSeq}
 use Rattle.ctl_verdicts.specs.ObligationSet.{IsFalseAtBits}
-use Rattle.seq_requirements.specs.Datapaths.{questions_of, rows_of, spots_of}
-use Rattle.seq_requirements.specs.declared.datapath.Datapath.{Datapath}
-use Rattle.seq_requirements.specs.declared.datapath.Datapath.TheVariants.{Seq, Plus}
+use Rattle.seq_requirements.specs.Datapaths.{questions_of, spots_of}
+use Rattle.seq_plus.specs.Datapaths.{rows_of}
+use Rattle.hcl_types.specs.declared.table.SequentialDatapath.{SequentialDatapath}
+use Rattle.hcl_types.specs.declared.table.SequentialDatapath.TheVariants.{Seq, SeqPlus}
 use Rattle.findings.specs.Rising.{RiseWithin}
 use Rattle.seq_diagnosis.specs.Diagnosis.{IsDiagnosis}
 use Rattle.seq_diagnosis.specs.declared.refusal.Refusal.{Refusal}
@@ -31,30 +32,30 @@ use Rattle.seq_refusals.specs.declared.answer.SeqAnswer.TheVariants.{Yes, No}
 -- ---- what `check seq` and `check seqplus` say
 
 -- the design has control values, and meets every obligation
-abbrev pub Accepts : Datapath → Variant → List Term → Type 0
+abbrev pub Accepts : SequentialDatapath → Variant → List Term → Type 0
 Accepts Seq v terms = AcceptsSeq v terms
-Accepts Plus v terms = AcceptsPlus v terms
+Accepts SeqPlus v terms = AcceptsPlus v terms
 
 -- the first obligation that is false at some valuation, and the least such valuation
-abbrev pub Rejects : Datapath → Variant → List Term → ℕ → List Bool → Type 0
+abbrev pub Rejects : SequentialDatapath → Variant → List Term → ℕ → List Bool → Type 0
 Rejects Seq v terms i w = RejectsSeq v terms i w
-Rejects Plus v terms i w = RejectsPlus v terms i w
+Rejects SeqPlus v terms i w = RejectsPlus v terms i w
 
 -- on every image and for every number of cycles, its machine is that of the run of instructions
-abbrev pub Refines : Datapath → Variant → List Term → Type 0
+abbrev pub Refines : SequentialDatapath → Variant → List Term → Type 0
 Refines Seq v terms = RefinesSeq v terms
-Refines Plus v terms = RefinesPlus v terms
+Refines SeqPlus v terms = RefinesPlus v terms
 
 -- ---- all obligations that are false somewhere
 
 -- obligation i holds at every valuation
-abbrev pub Everywhere : Datapath → Variant → List Term → ℕ → Type 0
+abbrev pub Everywhere : SequentialDatapath → Variant → List Term → ℕ → Type 0
 Everywhere which v terms i =
     (xs : List ℕ) (α : Assignment) (cv : ℕ → Leaf) → InRange (spots_of which) xs → AreControls (rows_of which) terms (number_among (spots_of which) xs) α cv
     → (questions_of which v).asks i xs α cv ≡ true
 
 -- An obligation that is false somewhere: its least counterexample, and the diagnosis there.
-pub record IsRefutation (which : Datapath) (v : Variant) (terms : List Term) (atoms : List Atom) (x : Refutation) : Type 0 where
+pub record IsRefutation (which : SequentialDatapath) (v : Variant) (terms : List Term) (atoms : List Atom) (x : Refutation) : Type 0 where
   pub first : 1 ≤ x.rule
   pub last : x.rule ≤ rule_count
   pub least : IsLeastOf (total (spots_of which) + length atoms) (IsFalseAtBits (questions_of which v) terms atoms x.rule) x.valuation.bits
@@ -66,17 +67,17 @@ is_refuted i all = some (λ (x : Refutation). x.rule == i) all
 
 -- Exactly these of the obligations from 1 to `until` are false somewhere. Each occurs once, and they are in the order
 -- of their numbers.
-pub record AreRefuted (which : Datapath) (v : Variant) (terms : List Term) (atoms : List Atom) (until : ℕ) (all : List Refutation) : Type 0 where
+pub record AreRefuted (which : SequentialDatapath) (v : Variant) (terms : List Term) (atoms : List Atom) (until : ℕ) (all : List Refutation) : Type 0 where
   pub each : AllByRecursion (IsRefutation which v terms atoms) all
   pub rising : RiseWithin (λ (x : Refutation). x.rule) 0 until all
   pub others : (i : ℕ) → 1 ≤ i → i ≤ until → is_refuted i all ≡ false → Everywhere which v terms i
 
-pub record IsRefusal (which : Datapath) (v : Variant) (terms : List Term) (r : Refusal) : Type 0 where
+pub record IsRefusal (which : SequentialDatapath) (v : Variant) (terms : List Term) (r : Refusal) : Type 0 where
   pub atoms : AreAtoms (rows_of which) terms r.atoms
   pub rejects : Rejects which v terms r.first.rule r.first.valuation.bits
   pub refuted : AreRefuted which v terms r.atoms rule_count (r.first ∷ r.others)
 
-abbrev pub IsAnswer : Datapath → Variant → List Term → SeqAnswer → Type 0
+abbrev pub IsAnswer : SequentialDatapath → Variant → List Term → SeqAnswer → Type 0
 IsAnswer which v terms Yes = Accepts which v terms
 IsAnswer which v terms (No r) = IsRefusal which v terms r
 

@@ -7,14 +7,14 @@ use Rattle.bdd_decide.specs.Decisions.{IsLeastOf}
 use Rattle.ctl_rules.specs.declared.rules.Rule.{Rule}
 use Rattle.seq_obligations.specs.Rules.{AreSeqRules}
 use Rattle.seq_plus_check.specs.Rules.{ArePlusRules}
-use Rattle.seq_requirements.specs.declared.datapath.Datapath.{Datapath}
-use Rattle.seq_requirements.specs.declared.datapath.Datapath.TheVariants.{Seq, Plus}
+use Rattle.hcl_types.specs.declared.table.SequentialDatapath.{SequentialDatapath}
+use Rattle.hcl_types.specs.declared.table.SequentialDatapath.TheVariants.{Seq, SeqPlus}
 use Rattle.ctl_verdicts.specs.declared.decision.FailedRule.{FailedRule}
 
 -- the 16 rules of a design in their order
-abbrev pub AreRulesOf : Datapath → Variant → List Term → Gates → List Rule → Type 0
+abbrev pub AreRulesOf : SequentialDatapath → Variant → List Term → Gates → List Rule → Type 0
 AreRulesOf Seq v terms net list = AreSeqRules v terms net list
-AreRulesOf Plus v terms net list = ArePlusRules v terms net list
+AreRulesOf SeqPlus v terms net list = ArePlusRules v terms net list
 
 -- a rule of the list is false at this valuation, and at no lesser one
 pub record IsFailure (net : Gates) (list : List Rule) (failure : FailedRule) : Type 0 where

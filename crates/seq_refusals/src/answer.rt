@@ -2,7 +2,7 @@
 ghost use Rattle.std.specs.Prelude.{◌≡◌, ◌≤◌, ◌<◌, ◌+◌, ◌∷◌, [], IfErr, IfOk, OnOk, Some, length, slice_get, true};
 ghost use Rattle.hcl_types.specs.Tables.{IsBound, IsOrderOf};
 ghost use Rattle.ctl_atoms.specs.Atoms.{AreAtoms, IsCtlFault};
-ghost use Rattle.seq_requirements.specs.Datapaths.{rows_of};
+ghost use Rattle.seq_plus.specs.Datapaths.{rows_of};
 ghost use Rattle.ctl_verdicts.specs.Decisions.{IsRuleDecision};
 ghost use Rattle.ctl_verdicts.specs.ObligationSet.{IsFault};
 ghost use Rattle.seq_refusals.specs.Answered as spec;
@@ -11,12 +11,11 @@ ghost use Rattle.seq_refusals.specs.Failures.{AreRulesOf, IsFailure};
 use control_check::{CheckFault, FailedRule, check_fault, decide};
 use ctl_atoms::CtlFault;
 use ctl_rules::{Rule, Rules};
-use hcl_types::OrderedDesign;
+use hcl_types::{OrderedDesign, SequentialDatapath};
 use nets::Net;
 use seq_diagnosis::{Refusal, Refutation, SeqFile, diagnose};
 use seq_obligations::seq_rules;
 use seq_plus_check::plus_rules;
-use seq_requirements::Datapath;
 use std::alloc::Global;
 use y86_base::{Items, Memory, Variant, push};
 
@@ -29,7 +28,7 @@ pub enum SeqAnswer {
 
 fn rules_of(
     alloc: Global,
-    which: Datapath,
+    which: SequentialDatapath,
     v: Variant,
     ordered: &OrderedDesign,
 ) -> Result<Rules, CtlFault>
@@ -40,8 +39,8 @@ fn rules_of(
     ensures fault { IfErr result (IsCtlFault (rows_of which) ordered.now.design.terms) }
 {
     match which {
-        Datapath::Seq => seq_rules(alloc, v, ordered),
-        Datapath::Plus => plus_rules(alloc, v, ordered),
+        SequentialDatapath::Seq => seq_rules(alloc, v, ordered),
+        SequentialDatapath::SeqPlus => plus_rules(alloc, v, ordered),
     }
 }
 
@@ -171,7 +170,7 @@ fn refuse(
 /// cycles.
 pub fn diagnose_seq(
     alloc: Global,
-    which: Datapath,
+    which: SequentialDatapath,
     v: Variant,
     ordered: &OrderedDesign,
 ) -> Result<SeqAnswer, CheckFault>

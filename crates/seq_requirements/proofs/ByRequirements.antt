@@ -25,8 +25,8 @@ use Rattle.seq_plus_check.specs.Fields as plus
 use Rattle.seq_plus_check.specs.Obligations.{demand_at as plus_demand_at}
 use Rattle.seq_requirements.specs.Datapaths.{line_of, signals_of}
 use Rattle.seq_requirements.specs.Requirements.{IsByRequirements, row_of, shared_required, shared_requirements}
-use Rattle.seq_requirements.specs.declared.datapath.Datapath.{Datapath}
-use Rattle.seq_requirements.specs.declared.datapath.Datapath.TheVariants.{Seq, Plus}
+use Rattle.hcl_types.specs.declared.table.SequentialDatapath.{SequentialDatapath}
+use Rattle.hcl_types.specs.declared.table.SequentialDatapath.TheVariants.{Seq, SeqPlus}
 
 module _ (α : Assignment) (cv : ℕ → Leaf) where
   abbrev answers : SignalRows → Row → seq.Fields → List Bool
@@ -66,15 +66,15 @@ module _ (α : Assignment) (cv : ℕ → Leaf) where
     | inr ge ↦ get_or_past (answers s r c) i true ge ∙ ap (λ xs. each (is_met α cv) xs) (sym (get_or_past (needs s r c) i [] ge))
   ]
 
-  pub by_requirements : (which : Datapath) (v : Variant) (xs : List ℕ) (i : ℕ) → IsByRequirements which v xs α cv i
+  pub by_requirements : (which : SequentialDatapath) (v : Variant) (xs : List ℕ) (i : ℕ) → IsByRequirements which v xs α cv i
   unfolding seq_demand_at plus_demand_at
   by_requirements Seq v xs i =
       let c = seq.fields_by xs in
       if_both (is_met α cv) (i == 16) _ _ _ _
       (excused (is_met α cv) (faulted c) _ _ (some_is α cv seq_row.new_pc (next_leaf (row v c.icode).next seq_row.valP seq_row.valC seq_row.valM (set c.cnd))))
       (shared_is (signals_of Seq) i (row_of Seq v xs) (line_of Seq xs))
-  by_requirements Plus v xs i =
+  by_requirements SeqPlus v xs i =
       let c = plus.fields_by xs in
       if_both (is_met α cv) (i == 16) _ _ _ _
       (some_is α cv plus_row.pc (next_leaf (row v c.icode).next plus_row.pValP plus_row.pValC plus_row.pValM (set c.cnd)))
-      (shared_is (signals_of Plus) i (row_of Plus v xs) (line_of Plus xs))
+      (shared_is (signals_of SeqPlus) i (row_of SeqPlus v xs) (line_of SeqPlus xs))

@@ -23,8 +23,8 @@ use Rattle.dp_signals.specs.declared.sequential_rows.SignalRows.{SignalRows}
 use Rattle.seq_plus.specs.PlusNames as plus_row
 use Rattle.seq_plus_check.specs.Fields as plus
 use Rattle.seq_requirements.specs.Datapaths.{demand_of, line_of, signals_of}
-use Rattle.seq_requirements.specs.declared.datapath.Datapath.{Datapath}
-use Rattle.seq_requirements.specs.declared.datapath.Datapath.TheVariants.{Seq, Plus}
+use Rattle.hcl_types.specs.declared.table.SequentialDatapath.{SequentialDatapath}
+use Rattle.hcl_types.specs.declared.table.SequentialDatapath.TheVariants.{Seq, SeqPlus}
 
 -- ---- the obligations that both datapaths share
 
@@ -79,21 +79,21 @@ plus_next v icode cnd = some_word plus_row.pc (next_leaf (row v icode).next plus
 -- ---- by the numbers of the fields
 
 -- the line S, and the row of its icode
-abbrev pub line_in : Datapath → List ℕ → Fields
+abbrev pub line_in : SequentialDatapath → List ℕ → Fields
 line_in which xs = line_of which xs
 
-abbrev pub row_of : Datapath → Variant → List ℕ → Row
+abbrev pub row_of : SequentialDatapath → Variant → List ℕ → Row
 row_of which v xs = row v (line_of which xs).icode
 
-abbrev pub next_requirements : Datapath → Variant → List ℕ → List Requirement
+abbrev pub next_requirements : SequentialDatapath → Variant → List ℕ → List Requirement
 next_requirements Seq v xs = seq_next (row_of Seq v xs) (line_of Seq xs)
-next_requirements Plus v xs = plus_next v (plus.fields_by xs).icode (plus.fields_by xs).cnd
+next_requirements SeqPlus v xs = plus_next v (plus.fields_by xs).icode (plus.fields_by xs).cnd
 
 -- what obligation i requires, from 1 to 16
-abbrev pub requirements : Datapath → Variant → List ℕ → ℕ → List Requirement
+abbrev pub requirements : SequentialDatapath → Variant → List ℕ → ℕ → List Requirement
 requirements which v xs i =
     if i == 16 then next_requirements which v xs else shared_requirements (signals_of which) i (row_of which v xs) (line_of which xs)
 
 -- obligation i is met exactly if each of its requirements is
-abbrev pub IsByRequirements : Datapath → Variant → List ℕ → Assignment → (ℕ → Leaf) → ℕ → Type 0
+abbrev pub IsByRequirements : SequentialDatapath → Variant → List ℕ → Assignment → (ℕ → Leaf) → ℕ → Type 0
 IsByRequirements which v xs α cv i = demand_of which v i xs α cv ≡ each (is_met α cv) (requirements which v xs i)

@@ -9,7 +9,7 @@ mod laws;
 mod lines;
 mod listing;
 
-pub use datapath::{Datapath, bit_count, first_defined, signals_of, spots_of, table_of};
+pub use datapath::{bit_count, first_defined, signals_of, spots_of};
 pub use laws::law_of_requirements;
 pub use lines::{LineNow, PreviousNow, line_of, previous_of};
 pub use listing::requirements_of;

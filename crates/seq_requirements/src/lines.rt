@@ -6,8 +6,8 @@ ghost use Rattle.seq_plus_check.specs.Fields as plus;
 ghost use Rattle.seq_requirements.specs.Datapaths as spec;
 ghost use Rattle.seq_requirements.specs.Lines.{fields_in};
 
-use crate::datapath::Datapath;
 use control_values::number_at;
+use hcl_types::SequentialDatapath;
 use seq_obligations::{LINE, P_CND, P_ICODE, PLUS_LINE};
 
 /// The line S: what one cycle reads.
@@ -48,12 +48,12 @@ fn line_at(bits: &[bool], first: usize) -> LineNow
 
 /// The line S of a valuation.
 #[tactic(auto, unfolding(seq_obligations::specs::Fields::line_at))]
-pub fn line_of(which: Datapath, bits: &[bool]) -> LineNow
+pub fn line_of(which: SequentialDatapath, bits: &[bool]) -> LineNow
     ensures { fields_in result ≡ spec.line_of which (decoded (spec.spots_of which) 0 bits.now) }
 {
     match which {
-        Datapath::Seq => line_at(bits, LINE.error.first as usize),
-        Datapath::Plus => line_at(bits, PLUS_LINE.error.first as usize),
+        SequentialDatapath::Seq => line_at(bits, LINE.error.first as usize),
+        SequentialDatapath::SeqPlus => line_at(bits, PLUS_LINE.error.first as usize),
     }
 }
 

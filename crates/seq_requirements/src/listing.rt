@@ -6,7 +6,7 @@ ghost use Rattle.seq_requirements.specs.Datapaths.{spots_of};
 ghost use Rattle.seq_requirements.specs.Lines.{fields_in};
 ghost use Rattle.seq_requirements.specs.Requirements as spec;
 
-use crate::datapath::{Datapath, signals_of};
+use crate::datapath::signals_of;
 use crate::lines::{LineNow, line_of, previous_of};
 use ctl_atoms::Leaf;
 use ctl_rules::{address_leaf, operand_leaf_a, operand_leaf_b, word_leaf};
@@ -15,7 +15,7 @@ use findings::{
     Requirement, alu_function, destination_e, fetched_status, put_number, put_some, put_truth,
     register_number, set,
 };
-use hcl_types::NameId;
+use hcl_types::{NameId, SequentialDatapath};
 use seq_plus::row::{self as plus_row, PLUS};
 use std::alloc::Global;
 use y86_base::{Memory, Variant};
@@ -156,7 +156,7 @@ fn put_plus_next(out: &mut Vec<Requirement>, v: Variant, icode: u64, cnd: u64) -
 /// What obligation 16 requires.
 fn put_next(
     out: &mut Vec<Requirement>,
-    which: Datapath,
+    which: SequentialDatapath,
     v: Variant,
     bits: &[bool],
     r: &Row,
@@ -167,8 +167,8 @@ fn put_next(
     ensures { OnOk result (out.new.items ≡ out.old.items ++ spec.next_requirements which v (decoded (spots_of which) 0 bits.now)) }
 {
     match which {
-        Datapath::Seq => put_seq_next(out, r, l),
-        Datapath::Plus => {
+        SequentialDatapath::Seq => put_seq_next(out, r, l),
+        SequentialDatapath::SeqPlus => {
             let before = previous_of(bits);
             put_plus_next(out, v, before.icode, before.cnd)
         }
@@ -178,7 +178,7 @@ fn put_next(
 /// What an obligation requires at a valuation, signal by signal.
 pub fn requirements_of(
     alloc: Global,
-    which: Datapath,
+    which: SequentialDatapath,
     v: Variant,
     bits: &[bool],
     rule: u32,
