@@ -13,6 +13,7 @@ use Rattle.ctl_atoms.specs.Leaves.{Assignment, atom_eq, leaf_holds, leaf_meaning
 use Rattle.net_fields.specs.declared.field_specs.FieldSpec.{FieldSpec}
 use Rattle.net_fields.specs.FieldSpecs.{decoded, number_among, total}
 use Rattle.ctl_equations.specs.Controls.{row_leaf}
+use Rattle.control_values.specs.declared.scope.Scope.{Scope}
 
 -- an atom's truth, if the first atom has bit number first: the bit of its place in the list, and false if it isn't
 -- listed
@@ -23,6 +24,10 @@ truth_from first (a ∷ atoms) w atom = if atom_eq a atom then get_or w first fa
 -- the truths of atoms by the bits from `first` on
 abbrev pub assigned : List Atom → ℕ → List Bool → Assignment
 assigned atoms first w kind left right = truth_from first atoms w (record { kind = kind; left = left; right = right })
+
+-- the truths of a scope's atoms
+abbrev pub truths_in : Scope → Assignment
+truths_in s = assigned s.atoms.now s.first s.bits.now
 
 -- a leaf for each name, 0 past the end
 abbrev pub at : List Leaf → ℕ → Leaf

@@ -5,7 +5,7 @@ ghost use Rattle.hcl_types.specs.Lists.{each, some};
 ghost use Rattle.hcl_types.specs.Terms.{branch_value, picked, value};
 ghost use Rattle.ctl_atoms.specs.declared.leaf.Leaf.TheVariants.{Number};
 ghost use Rattle.ctl_atoms.specs.Leaves.{open_atom, open_lt, open_eq, decided_lt, leaf_cmp, leaf_holds, leaf_lt, leaf_same, leaf_meaning};
-ghost use Rattle.control_values.specs.Given.{assigned, at, taken, taken_from, truth_from};
+ghost use Rattle.control_values.specs.Given.{at, taken, taken_from, truth_from, truths_in};
 
 use ctl_atoms::{Atom, Leaf, atom_at, same_atom, same_leaf};
 use hcl_types::{CmpOp, Term, TermBranch, is_below};
@@ -68,7 +68,7 @@ impl<'a> Scope<'a> {
     /// Whether `x < y`.
     fn less(&self, x: Leaf, y: Leaf) -> bool
         requires { self.now.first ≤ 1000 }
-        ensures { result ≡ leaf_lt (assigned self.now.atoms.now self.now.first self.now.bits.now) x y }
+        ensures { result ≡ leaf_lt (truths_in self.now) x y }
     {
         match atom_at(CmpOp::Lt, x, y) {
             Some(atom) => truth_of(self.atoms, self.first, self.bits, atom),
@@ -79,7 +79,7 @@ impl<'a> Scope<'a> {
     /// Whether `x == y`.
     fn same(&self, x: Leaf, y: Leaf) -> bool
         requires { self.now.first ≤ 1000 }
-        ensures { result ≡ leaf_same (assigned self.now.atoms.now self.now.first self.now.bits.now) x y }
+        ensures { result ≡ leaf_same (truths_in self.now) x y }
     {
         match atom_at(CmpOp::Eq, x, y) {
             Some(atom) => truth_of(self.atoms, self.first, self.bits, atom),
@@ -90,7 +90,7 @@ impl<'a> Scope<'a> {
     /// A comparison of two leaves.
     fn compare(&self, op: CmpOp, x: Leaf, y: Leaf) -> bool
         requires { self.now.first ≤ 1000 }
-        ensures { result ≡ leaf_cmp (assigned self.now.atoms.now self.now.first self.now.bits.now) op x y }
+        ensures { result ≡ leaf_cmp (truths_in self.now) op x y }
     {
         match op {
             CmpOp::Eq => self.same(x, y),
@@ -105,7 +105,7 @@ impl<'a> Scope<'a> {
     /// Whether a leaf isn't 0.
     fn isnt_zero(&self, x: Leaf) -> bool
         requires { self.now.first ≤ 1000 }
-        ensures { result ≡ leaf_holds (assigned self.now.atoms.now self.now.first self.now.bits.now) x }
+        ensures { result ≡ leaf_holds (truths_in self.now) x }
     {
         !self.same(x, Leaf::Number(0))
     }
@@ -114,7 +114,7 @@ impl<'a> Scope<'a> {
     #[cycle(evaluation)]
     pub fn leaf_of(&self, t: &Term) -> Leaf
         requires { self.now.first ≤ 1000 }
-        ensures { result ≡ value (leaf_meaning (assigned self.now.atoms.now self.now.first self.now.bits.now)) (at self.now.leaves.now) t.now }
+        ensures { result ≡ value (leaf_meaning (truths_in self.now)) (at self.now.leaves.now) t.now }
     {
         match t {
             Term::Num(n) => Leaf::Number(*n),
@@ -142,7 +142,7 @@ impl<'a> Scope<'a> {
     #[cycle(evaluation)]
     fn term_holds(&self, t: &Term) -> bool
         requires { self.now.first ≤ 1000 }
-        ensures { result ≡ leaf_holds (assigned self.now.atoms.now self.now.first self.now.bits.now) (value (leaf_meaning (assigned self.now.atoms.now self.now.first self.now.bits.now)) (at self.now.leaves.now) t.now) }
+        ensures { result ≡ leaf_holds (truths_in self.now) (value (leaf_meaning (truths_in self.now)) (at self.now.leaves.now) t.now) }
     {
         let x = self.leaf_of(t);
         self.isnt_zero(x)
@@ -152,7 +152,7 @@ impl<'a> Scope<'a> {
     #[cycle(evaluation)]
     fn term_equals(&self, left: Leaf, t: &Term) -> bool
         requires { self.now.first ≤ 1000 }
-        ensures { result ≡ leaf_cmp (assigned self.now.atoms.now self.now.first self.now.bits.now) Eq left (value (leaf_meaning (assigned self.now.atoms.now self.now.first self.now.bits.now)) (at self.now.leaves.now) t.now) }
+        ensures { result ≡ leaf_cmp (truths_in self.now) Eq left (value (leaf_meaning (truths_in self.now)) (at self.now.leaves.now) t.now) }
     {
         let x = self.leaf_of(t);
         self.same(left, x)
@@ -161,8 +161,8 @@ impl<'a> Scope<'a> {
     #[cycle(evaluation)]
     fn each_holds(&self, all: &[Term]) -> bool
         requires { self.now.first ≤ 1000 }
-        ensures { result ≡ each (leaf_holds (assigned self.now.atoms.now self.now.first self.now.bits.now))
-            (map (value (leaf_meaning (assigned self.now.atoms.now self.now.first self.now.bits.now)) (at self.now.leaves.now)) all.now) }
+        ensures { result ≡ each (leaf_holds (truths_in self.now))
+            (map (value (leaf_meaning (truths_in self.now)) (at self.now.leaves.now)) all.now) }
     {
         for t in all {
             if !self.term_holds(t) {
@@ -175,8 +175,8 @@ impl<'a> Scope<'a> {
     #[cycle(evaluation)]
     fn some_holds(&self, all: &[Term]) -> bool
         requires { self.now.first ≤ 1000 }
-        ensures { result ≡ some (leaf_holds (assigned self.now.atoms.now self.now.first self.now.bits.now))
-            (map (value (leaf_meaning (assigned self.now.atoms.now self.now.first self.now.bits.now)) (at self.now.leaves.now)) all.now) }
+        ensures { result ≡ some (leaf_holds (truths_in self.now))
+            (map (value (leaf_meaning (truths_in self.now)) (at self.now.leaves.now)) all.now) }
     {
         for t in all {
             if self.term_holds(t) {
@@ -189,8 +189,8 @@ impl<'a> Scope<'a> {
     #[cycle(evaluation)]
     fn some_equals(&self, left: Leaf, all: &[Term]) -> bool
         requires { self.now.first ≤ 1000 }
-        ensures { result ≡ some (leaf_cmp (assigned self.now.atoms.now self.now.first self.now.bits.now) Eq left)
-            (map (value (leaf_meaning (assigned self.now.atoms.now self.now.first self.now.bits.now)) (at self.now.leaves.now)) all.now) }
+        ensures { result ≡ some (leaf_cmp (truths_in self.now) Eq left)
+            (map (value (leaf_meaning (truths_in self.now)) (at self.now.leaves.now)) all.now) }
     {
         for t in all {
             if self.term_equals(left, t) {
@@ -203,8 +203,8 @@ impl<'a> Scope<'a> {
     #[cycle(evaluation)]
     fn first_taken(&self, all: &[TermBranch]) -> Leaf
         requires { self.now.first ≤ 1000 }
-        ensures { result ≡ picked (leaf_holds (assigned self.now.atoms.now self.now.first self.now.bits.now)) (Number 0)
-            (map (branch_value (leaf_meaning (assigned self.now.atoms.now self.now.first self.now.bits.now)) (at self.now.leaves.now)) all.now) }
+        ensures { result ≡ picked (leaf_holds (truths_in self.now)) (Number 0)
+            (map (branch_value (leaf_meaning (truths_in self.now)) (at self.now.leaves.now)) all.now) }
     {
         for branch in all {
             if self.term_holds(&branch.guard) {
@@ -218,7 +218,7 @@ impl<'a> Scope<'a> {
 /// Whether a signal that picks this leaf is true.
 pub fn holds(scope: &Scope<'_>, x: Leaf) -> bool
     requires { scope.now.first ≤ 1000 }
-    ensures { result ≡ leaf_holds (assigned scope.now.atoms.now scope.now.first scope.now.bits.now) x }
+    ensures { result ≡ leaf_holds (truths_in scope.now) x }
 {
     scope.isnt_zero(x)
 }
@@ -226,7 +226,7 @@ pub fn holds(scope: &Scope<'_>, x: Leaf) -> bool
 /// The case of a case list that is taken, counted from 0: the first whose guard is true.
 fn taken_branch(scope: &Scope<'_>, all: &[TermBranch]) -> Option<usize>
     requires { scope.now.first ≤ 1000 }
-    ensures { result ≡ taken_from (assigned scope.now.atoms.now scope.now.first scope.now.bits.now) (at scope.now.leaves.now) 0 all.now }
+    ensures { result ≡ taken_from (truths_in scope.now) (at scope.now.leaves.now) 0 all.now }
 {
     for k in 0..all.len() {
         if scope.term_holds(&all[k].guard) {
@@ -239,7 +239,7 @@ fn taken_branch(scope: &Scope<'_>, all: &[TermBranch]) -> Option<usize>
 /// The case that a definition takes, counted from 0. `None` if no guard is true, and for a definition without cases.
 pub fn taken_case(scope: &Scope<'_>, term: &Term) -> Option<usize>
     requires { scope.now.first ≤ 1000 }
-    ensures { result ≡ taken (assigned scope.now.atoms.now scope.now.first scope.now.bits.now) (at scope.now.leaves.now) term.now }
+    ensures { result ≡ taken (truths_in scope.now) (at scope.now.leaves.now) term.now }
 {
     match term {
         Term::Case(all) => taken_branch(scope, all.items()),

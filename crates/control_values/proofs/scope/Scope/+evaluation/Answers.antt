@@ -7,13 +7,13 @@ use Rattle.hcl_types.proofs.Values.{value_In}
 use Rattle.ctl_atoms.specs.declared.leaf.Leaf.{Leaf}
 use Rattle.ctl_atoms.specs.declared.leaf.Leaf.TheVariants.{Number}
 use Rattle.ctl_atoms.specs.Leaves.{leaf_cmp, leaf_meaning}
-use Rattle.control_values.specs.Given.{assigned, at}
+use Rattle.control_values.specs.Given.{at, truths_in}
 use Rattle.control_values.proofs.scope.Scope.+evaluation.Goals as goal
 
 pub leaf_of-returns-in-In : goal.leaf_of-returns-in-In
 leaf_of-returns-in-In t c =
     let s = c.args.self.now in
-    let α = assigned s.atoms.now s.first s.bits.now in
+    let α = truths_in s in
     let v : Term → Leaf = value (leaf_meaning α) (at s.leaves.now) in
     c.truth_leaf-in-In.ensures ∙ (ap (λ b. Number (if b then 1 else 0))
     (c.some_equals.ensures ∙ (ap (λ l. some (leaf_cmp α Eq l) (map v c.items-in-In.result.now)) (c.leaf_of-left-in-In.ensures ∙ ap v c.get-in-In.ensures)
