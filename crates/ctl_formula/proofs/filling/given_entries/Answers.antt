@@ -4,7 +4,7 @@ use Rattle.nets.proofs.Truths.{begins_more}
 use Rattle.hcl_types.specs.declared.table.Row.{Row}
 use Rattle.ctl_formula.specs.Encoding.{IsInputEncoding}
 use Rattle.ctl_given.specs.Places.{place_of}
-use Rattle.ctl_given.proofs.Places.{placed_at}
+use Rattle.ctl_given.proofs.Placed.{placed_at}
 use Rattle.ctl_formula.proofs.OneByOne.{given_next}
 use Rattle.ctl_formula.proofs.filling.given_entries.Goals as goal
 

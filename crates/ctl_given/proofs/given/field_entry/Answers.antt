@@ -8,7 +8,7 @@ use Rattle.ctl_given.specs.declared.places.Place.{Place}
 use Rattle.ctl_equations.specs.Controls.{field_leaf}
 use Rattle.ctl_given.specs.Places.{IsInside}
 use Rattle.ctl_picks.specs.TakenPicks.{IsOnlyTaken, at}
-use Rattle.ctl_given.proofs.Places.{place_at}
+use Rattle.ctl_given.proofs.Placed.{place_at}
 use Rattle.ctl_given.proofs.given.field_entry.Goals as goal
 
 pub code_picks-requires-clause-few : goal.code_picks-requires-clause-few
