@@ -1,6 +1,6 @@
 -- The runs of the machines of the two sequential datapaths.
 use Rattle.std.specs.Prelude.{ℕ, List}
-use Rattle.dp_signals.specs.SeqRun.{SeqRun}
+use Rattle.dp_sequential.specs.Seq.{SeqRun}
 use Rattle.hcl_types.specs.declared.term.Term.{Term}
 use Rattle.seq_plus.specs.PlusRun.{PlusEndIs, PlusRun}
 use Rattle.seq_plus.specs.declared.state.PlusState.{PlusState}

@@ -6,8 +6,7 @@ use Rattle.y86_base.specs.declared.parts.Variant.{Variant}
 use Rattle.y86_isa.specs.declared.machine.Machine.{Machine}
 use Rattle.y86_isa.specs.declared.machine.Rec.{Rec}
 use Rattle.hcl_types.specs.declared.term.Term.{Term}
-use Rattle.seq_path.specs.Calls.{SeqCalls}
-use Rattle.seq_path.specs.Seq.{SeqMachine, started}
+use Rattle.seq_path.specs.Seq.{SeqCalls, SeqMachine, started}
 use Rattle.yis_run.specs.Report.{report}
 use Rattle.cli_runs.specs.Answers.{SeqAnswers}
 use Rattle.cli_plans.specs.Stages.{run_status}

@@ -1,11 +1,11 @@
 -- Calls of `cycle` on a new machine are its run.
-use Rattle.std.proofs.Common.{◌≡◌, ℕ, List, Option, refl, ◌∙◌, ap, subst}
+use Rattle.std.proofs.Common.{◌≡◌, List, Option, refl, ◌∙◌, ap, subst}
 use Rattle.y86_base.specs.declared.parts.Variant.{Variant}
 use Rattle.y86_isa.specs.declared.machine.Rec.{Rec}
 use Rattle.hcl_types.specs.declared.term.Term.{Term}
 use Rattle.dp_machines.proofs.After.{after_states}
-use Rattle.dp_sequential.specs.Machine.{CallsOn, IsCall, MachineView, started_on}
-use Rattle.dp_sequential.specs.Path.{IsCycle, RunFrom, SequentialPath}
+use Rattle.dp_sequential.specs.Machine.{CallsAreTheRun, IsCall, MachineView, started_on}
+use Rattle.dp_sequential.specs.Path.{IsCycle, SequentialPath}
 
 module _ {S : Type 0} (path : SequentialPath S) where
   -- a machine of this instruction set and design
@@ -18,8 +18,7 @@ module _ {S : Type 0} (path : SequentialPath S) where
     subst (λ x. IsCycle path x terms m.state r q.state) k.0 (subst (λ x. IsCycle path m.variant x m.state r q.state) k.1 c.cycle),
   )
 
-  pub calls_are_the_run : (v : Variant) (terms : List Term) (order image : List ℕ) (k : ℕ) (q : MachineView S) (records : List Rec) → CallsOn path (started_on path v terms order image) k q records →
-      (q.variant ≡ v) × (q.terms ≡ terms) × RunFrom path v terms (path.start image) k q.state records
+  pub calls_are_the_run : CallsAreTheRun path
   calls_are_the_run v terms order image k q records h =
       let done = after_states (IsCall path) (IsCycle path v terms) (λ (p : MachineView S). p.state) (Keeps v terms) (kept v terms) (started_on path v terms order image) (refl, refl) k q records h in
-      (done.0.0, done.0.1, done.1)
+      record { same_variant = done.0.0; same_terms = done.0.1; run = done.1 }

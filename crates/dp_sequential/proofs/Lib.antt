@@ -3,3 +3,4 @@ pub mod OneRun
 pub mod Calls
 pub mod Sizes
 pub mod Tells
+pub mod SeqRows

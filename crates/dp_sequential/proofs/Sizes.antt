@@ -24,4 +24,4 @@ module _ {S : Type 0} (rows : SignalRows) (path : SequentialPath S) (laws : IsSe
   -- calls on a new machine keep the size of its memory
   pub calls_keep : (order image : List ℕ) (k : ℕ) (q : MachineView S) (records : List Rec) → CallsOn path (started_on path v terms order image) k q records →
       length (path.mem q.state) ≡ length image
-  calls_keep order image k q records h = run_keeps (path.start image) k q.state records (calls_are_the_run path v terms order image k q records h).2 ∙ ap length (laws.starts image)
+  calls_keep order image k q records h = run_keeps (path.start image) k q.state records (calls_are_the_run path v terms order image k q records h).run ∙ ap length (laws.starts image)

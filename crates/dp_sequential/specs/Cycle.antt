@@ -71,11 +71,9 @@ record_by r pc flags f =
       stat = stat_of (f r.stat);
     })
 
--- the machine after a cycle on the machine m, which leads to this PC if its Stat is AOK; with another Stat, only the
--- status changes
-abbrev pub stepped : SignalRows → Machine → (ℕ → ℕ) → ℕ → Machine
-stepped r m f pc =
-    if f r.stat == 1 then
+-- the machine after a cycle on the machine m whose Stat is AOK, which leads to this PC: all changes at once
+abbrev pub updated : SignalRows → Machine → (ℕ → ℕ) → ℕ → Machine
+updated r m f pc =
     record {
       regs = registers_by r m.regs f;
       flags = flags_by r m.flags f;
@@ -83,4 +81,7 @@ stepped r m f pc =
       stat = stat_of (f r.stat);
       mem = memory_by r m.mem f;
     }
-    else record m { stat = stat_of (f r.stat) }
+
+-- the machine after a cycle on the machine m: with another Stat than AOK, only the status changes
+abbrev pub stepped : SignalRows → Machine → (ℕ → ℕ) → ℕ → Machine
+stepped r m f pc = if f r.stat == 1 then updated r m f pc else record m { stat = stat_of (f r.stat) }

@@ -1,4 +1,6 @@
 pub mod Cycle
+pub mod Hardware
+pub mod Reads
 pub mod Path
 pub mod Laws
 pub mod Machine

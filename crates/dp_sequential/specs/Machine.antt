@@ -39,6 +39,18 @@ pub record IsCall {S : Type 0} (path : SequentialPath S) (p : MachineView S) (r 
 abbrev pub CallsOn : {S : Type 0} → SequentialPath S → MachineView S → ℕ → MachineView S → List Rec → Type 0
 CallsOn path = IsAfter (IsCall path)
 
+-- k calls on a machine that began on an image are the run of k cycles, with the same state and records. A call after
+-- the end does nothing.
+pub record IsRun {S : Type 0} (path : SequentialPath S) (v : Variant) (terms : List Term) (image : List ℕ) (k : ℕ) (q : MachineView S) (records : List Rec) : Type 0 where
+  pub same_variant : q.variant ≡ v
+  pub same_terms : q.terms ≡ terms
+  pub run : RunFrom path v terms (path.start image) k q.state records
+
+abbrev pub CallsAreTheRun : {S : Type 0} → SequentialPath S → Type 0
+CallsAreTheRun {S} path =
+    (v : Variant) (terms : List Term) (order image : List ℕ) (k : ℕ) (q : MachineView S) (records : List Rec) →
+    CallsOn path (started_on path v terms order image) k q records → IsRun path v terms image k q records
+
 -- what is true of every machine: the design is bound to the table, and the order is one of this design
 pub record IsOfTable (table : List Row) (terms : List Term) (order : List ℕ) : Type 0 where
   pub bound : IsBound table terms

@@ -58,7 +58,7 @@ impl Sequential for SeqState {
         self.pc
     }
 
-    #[tactic(auto, unfolding(dp_signals::specs::SeqCycle::seq_next))]
+    #[tactic(auto, unfolding(crate::specs::Seq::seq_next))]
     #[inline(always)]
     fn advance(&mut self, values: &[u64]) {
         self.stat = Stat::of(at(values, SEQ.stat));

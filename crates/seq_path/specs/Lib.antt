@@ -1,2 +1,1 @@
 pub mod Seq
-pub mod Calls

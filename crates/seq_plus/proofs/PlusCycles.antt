@@ -1,6 +1,6 @@
 -- Under any file, a cycle of SEQ+ works on the machine at the PC that the file computes, and its record reports what it
 -- changes.
-use Rattle.std.proofs.Common.{◌≡◌, ℕ, ◌==◌, Bool, true, false, cond, List, Option, Some, IfSome, refl, sym, ap, subst}
+use Rattle.std.proofs.Common.{◌≡◌, ℕ, ◌==◌, Bool, true, false, cond, List, Option, IfSome, refl, sym, ap, subst}
 use Rattle.y86_base.specs.Stat.{stat_of}
 use Rattle.y86_base.specs.declared.parts.Stat.{Stat}
 use Rattle.y86_base.specs.declared.parts.Variant.{Variant}
@@ -10,11 +10,11 @@ use Rattle.y86_isa.specs.declared.machine.Machine.{Machine}
 use Rattle.y86_isa.specs.declared.machine.Rec.{Rec}
 use Rattle.hcl_types.specs.declared.term.Term.{Term}
 use Rattle.dp_sequential.specs.Cycle.{flags_by, memory_by, record_by, registers_by, stepped, store_by}
-use Rattle.dp_sequential.proofs.Tells.{tells}
+use Rattle.dp_sequential.proofs.Tells.{cycle_says, tells}
 use Rattle.seq_plus.specs.PlusCycle.{plus_next, plus_record, previous_of}
 use Rattle.seq_plus.specs.PlusEquations.{PlusSolves, at_pc}
 use Rattle.seq_plus.specs.PlusNames as name
-use Rattle.seq_plus.specs.PlusRun.{IsPlusCycle}
+use Rattle.seq_plus.specs.PlusRun.{IsPlusCycle, plus_path}
 use Rattle.seq_plus.specs.Told.{TellsCycle}
 use Rattle.seq_plus.specs.declared.state.PlusState.{PlusState}
 
@@ -74,15 +74,6 @@ module _ (t : PlusState) (f : ℕ → ℕ) where
         ifun = normal_ifun (is_aok (stat_of (f name.Stat))) raw refl;
       }
 
-abbrev Says : Variant → List Term → PlusState → PlusState → Option Rec → Type 0
-Says v terms s t r = IfSome r (λ x. (f : ℕ → ℕ) × PlusSolves v terms s f × TellsCycle s t f x)
-
-cycle_by : (v : Variant) (terms : List Term) (s : PlusState) (r : Option Rec) (t : PlusState) → IsPlusCycle v terms s r t → (b : Bool) → is_aok s.stat ≡ b → Says v terms s t r
-cycle_by v terms s r t h true e =
-    let goes = h.goes e in
-    subst (Says v terms s t) (sym goes.3) (goes.0, goes.1, subst (λ (u : PlusState). TellsCycle s u goes.0 (plus_record s goes.0)) (sym goes.2) (plus_tells s goes.0))
-cycle_by v terms s r t h false e = subst (Says v terms s t) (sym (h.ended e).1) tt
-
 pub plus_cycle_tells : (v : Variant) (terms : List Term) (s : PlusState) (r : Option Rec) (t : PlusState) → IsPlusCycle v terms s r t →
     IfSome r (λ x. (f : ℕ → ℕ) × PlusSolves v terms s f × TellsCycle s t f x)
-plus_cycle_tells v terms s r t h = cycle_by v terms s r t h (is_aok s.stat) refl
+plus_cycle_tells v terms = cycle_says plus_path v terms (λ s t x. (f : ℕ → ℕ) × PlusSolves v terms s f × TellsCycle s t f x) (λ s f h. (f, h, plus_tells s f))

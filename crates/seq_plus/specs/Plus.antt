@@ -1,10 +1,10 @@
--- A machine of SEQ+ as its callers see it, and the run of its calls of `cycle`.
-use Rattle.std.specs.Prelude.{◌≡◌, ℕ, List}
+-- A machine of SEQ+ as its callers see it, and its calls of `cycle`, one after another.
+use Rattle.std.specs.Prelude.{ℕ, List}
 use Rattle.y86_base.specs.declared.parts.Variant.{Variant}
 use Rattle.y86_isa.specs.declared.machine.Rec.{Rec}
 use Rattle.hcl_types.specs.declared.term.Term.{Term}
 use Rattle.dp_sequential.specs.Machine.{CallsOn, MachineView, started_on}
-use Rattle.seq_plus.specs.PlusRun.{PlusRun, plus_path}
+use Rattle.seq_plus.specs.PlusRun.{plus_path}
 use Rattle.seq_plus.specs.declared.state.PlusState.{PlusState}
 
 -- the instruction set, the design with its order, and the state
@@ -18,15 +18,3 @@ started = started_on plus_path
 -- q is the machine after k calls on p, and these are the records that they returned, the first one first
 abbrev pub PlusCalls : PlusMachine → ℕ → PlusMachine → List Rec → Type 0
 PlusCalls = CallsOn plus_path
-
--- k calls on a machine that began on an image are the run of k cycles, with the same state and records. A call after
--- the end does nothing.
-pub record IsRun (v : Variant) (terms : List Term) (image : List ℕ) (k : ℕ) (q : PlusMachine) (records : List Rec) : Type 0 where
-  pub same_variant : q.variant ≡ v
-  pub same_terms : q.terms ≡ terms
-  pub run : PlusRun v terms image k q.state records
-
-abbrev pub CallsAreTheRun : Type 0
-CallsAreTheRun =
-    (v : Variant) (terms : List Term) (order image : List ℕ) (k : ℕ) (q : PlusMachine) (records : List Rec) →
-    PlusCalls (started v terms order image) k q records → IsRun v terms image k q records

@@ -4,9 +4,9 @@ ghost use Rattle.y86_base.specs.declared.parts.Variant.{Variant};
 ghost use Rattle.y86_isa.specs.declared.machine.Rec.{Rec};
 ghost use Rattle.hcl_types.specs.Tables.{IsBound, IsOrderOf, IsSound};
 ghost use Rattle.hcl_types.specs.declared.term.Term.{Term};
-ghost use Rattle.seq_plus.specs.Plus.{CallsAreTheRun};
+ghost use Rattle.dp_sequential.specs.Machine.{CallsAreTheRun};
 ghost use Rattle.seq_plus.specs.PlusEquations.{PlusSolves};
-ghost use Rattle.seq_plus.specs.PlusRun.{IsPlusCycle, PlusRun};
+ghost use Rattle.seq_plus.specs.PlusRun.{IsPlusCycle, PlusRun, plus_path};
 ghost use Rattle.seq_plus.specs.PlusTable.{plus_rows};
 ghost use Rattle.seq_plus.specs.Told.{TellsCycle};
 ghost use Rattle.seq_plus.specs.declared.state.PlusState.{PlusState};
@@ -46,5 +46,5 @@ pub fn law_of_plus_cycles()
 /// Calls of `cycle` on a new machine are its run: the state and the records after k calls are those after k cycles.
 #[tactic(auto, using(crate::proofs::OneRun::calls_are_the_run))]
 pub fn law_of_calls()
-    ensures { CallsAreTheRun }
+    ensures { CallsAreTheRun plus_path }
 {}

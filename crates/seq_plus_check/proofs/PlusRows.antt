@@ -5,7 +5,7 @@ use Rattle.hcl_types.specs.declared.term.Term.{Term}
 use Rattle.dp_signals.specs.Equations.{rule_of}
 use Rattle.dp_signals.specs.PipeEquations.{constants}
 use Rattle.dp_sequential.specs.Cycle.{block_by, fetched_by, worked_by}
-use Rattle.seq_refinement.specs.Hardware.{HasHardware}
+use Rattle.dp_sequential.specs.Hardware.{HasHardware}
 use Rattle.seq_plus.specs.PlusEquations.{PlusSolves, at_pc, plus_block, plus_given}
 use Rattle.seq_plus.specs.PlusNames as row
 use Rattle.seq_plus.specs.declared.state.PlusState.{PlusState}

@@ -43,7 +43,7 @@ use Rattle.seq_obligations.specs.Fields.{plus_bit_count}
 use Rattle.seq_obligations.specs.Obligations.{shared_demand, rule_count}
 use Rattle.seq_refinement.specs.Cycle.{Agrees}
 use Rattle.seq_refinement.specs.Facts.{FollowsControl}
-use Rattle.seq_refinement.specs.Hardware.{HasHardware}
+use Rattle.dp_sequential.specs.Hardware.{HasHardware}
 use Rattle.seq_refinement.proofs.Agreement.{IsTested, all_agree, constant_role, constant_row, defines, holds_field, inputs_of}
 use Rattle.seq_refinement.proofs.LineOfCycle.{cnd_is, derror_is, ra_is, rb_is, ties}
 use Rattle.seq_refinement.proofs.Lines.{fields_allowed, fields_in_range, goes_on}

@@ -15,7 +15,7 @@ use Rattle.ctl_atoms.specs.declared.leaf.Leaf.{Leaf}
 use Rattle.ctl_equations.specs.Laws.{real_assignment}
 use Rattle.seq_obligations.specs.Obligations.{shared_demand}
 use Rattle.seq_refinement.specs.Cycle.{Agrees, fields_at}
-use Rattle.seq_refinement.specs.Hardware.{HasHardware}
+use Rattle.dp_sequential.specs.Hardware.{HasHardware}
 use Rattle.seq_refinement.proofs.Reflected.{Ties, number_is, truth_is}
 
 -- no access, no error

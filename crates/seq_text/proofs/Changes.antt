@@ -12,10 +12,10 @@ use Rattle.y86_isa.specs.declared.machine.Store.{Store}
 use Rattle.hcl_types.specs.declared.term.Term.{Term}
 use Rattle.dp_signals.specs.Equations.{rule_of}
 use Rattle.dp_signals.specs.PipeEquations.{constants}
-use Rattle.dp_signals.specs.SeqCycle.{seq_next}
 use Rattle.dp_signals.specs.SeqNames as seq
 use Rattle.dp_signals.specs.Values.{bit}
-use Rattle.dp_signals.proofs.SeqRows.{seq_hardware_rows}
+use Rattle.dp_sequential.proofs.SeqRows.{seq_hardware_rows}
+use Rattle.dp_sequential.specs.Seq.{seq_next}
 use Rattle.seq_plus.specs.PlusCycle.{plus_next}
 use Rattle.dp_sequential.specs.Cycle.{block_by, fetched_by, worked_by}
 use Rattle.seq_plus.specs.PlusEquations.{PlusSolves, plus_block, plus_given}

@@ -7,8 +7,7 @@ use Rattle.y86_isa.specs.declared.machine.Machine.{Machine}
 use Rattle.y86_isa.specs.declared.machine.Rec.{Rec}
 use Rattle.hcl_types.specs.declared.term.Term.{Term}
 use Rattle.dp_signals.specs.After.{IsAfter}
-use Rattle.dp_signals.specs.SeqCycle.{seq_record}
-use Rattle.dp_signals.specs.SeqRun.{IsSeqCycle}
+use Rattle.dp_sequential.specs.Seq.{IsSeqCycle, seq_record}
 use Rattle.seq_plus.specs.PlusCycle.{plus_record}
 use Rattle.seq_plus.specs.PlusRun.{IsPlusCycle, plus_start}
 use Rattle.seq_plus.specs.declared.state.PlusState.{PlusState}

@@ -2,8 +2,8 @@
 use Rattle.std.proofs.Common.{slice_get, ◌∙◌}
 use Rattle.dp_signals.specs.Equations.{defined_value, rule_of}
 use Rattle.dp_signals.specs.PipeEquations.{constants}
-use Rattle.dp_signals.specs.SeqEquations.{seq_given}
 use Rattle.dp_signals.specs.SeqNames as seq
+use Rattle.dp_sequential.specs.Seq.{seq_given}
 use Rattle.seq_plus.specs.PlusEquations.{plus_given}
 use Rattle.seq_plus.specs.PlusNames as plus
 use Rattle.pipe_stage_text.proofs.Picks.{value_of_source}

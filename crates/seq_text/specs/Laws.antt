@@ -9,10 +9,8 @@ use Rattle.y86_isa.specs.declared.machine.Machine.{Machine}
 use Rattle.y86_isa.specs.declared.machine.Rec.{Rec}
 use Rattle.y86_isa.specs.declared.machine.Store.{Store}
 use Rattle.hcl_types.specs.declared.term.Term.{Term}
-use Rattle.dp_signals.specs.SeqCycle.{seq_next}
-use Rattle.dp_signals.specs.SeqEquations.{SeqSolves}
 use Rattle.dp_signals.specs.SeqNames as seq
-use Rattle.dp_signals.specs.SeqRun.{SeqRun}
+use Rattle.dp_sequential.specs.Seq.{SeqRun, SeqSolves, seq_next}
 use Rattle.seq_plus.specs.PlusCycle.{plus_next}
 use Rattle.seq_plus.specs.PlusEquations.{PlusSolves}
 use Rattle.seq_plus.specs.PlusNames as plus
