@@ -60,6 +60,18 @@ ROWS = [
     ("a register number among the fields", "crates/pipe_fields/src/places.rt", "W_DST_M,", " W_MORE,", {
         "crates/pipe_fields/src/places.rt": ["pub const REGISTER_COUNT: usize = 11;"],
     }),
+    ("a field of SEQ", "crates/seq_obligations/specs/Fields.antt", "(λ c. c.icode)", '\n    ∷ field (codes "more") 2 (λ l. l.more) (λ r. r.more) (λ c. c.more)', {
+        "crates/seq_obligations/specs/Fields.antt": ["  pub more : ℕ", "      more = place (first + 5) 2;", "      ifun = place (first + 7) 4;", "      ifun = get_or xs 3 0;", "      more = number_at w l.more;"],
+        "crates/seq_obligations/specs/Signals.antt": ["  pub more : Within vars l.more"],
+        "crates/seq_obligations/src/signals.rt": ["    pub more: BitRange,", "            more: place!($first + 5, 2),", "            ifun: place!($first + 7, 4),"],
+        "crates/seq_requirements/src/lines.rt": ["    pub more: u64,"],
+    }),
+    ("an obligation of SEQ", "crates/seq_obligations/specs/Obligations.antt", "s14 s r cv ∷", " s17 s r cv ∷", {
+        "crates/seq_obligations/specs/Obligations.antt": ["rule_count = 17"],
+    }),
+    ("the gate of an obligation of SEQ", "crates/seq_obligations/src/demands.rt", "15 => status_told(b, ctl, s, l, icode),", "\n            16 => status_told(b, ctl, s, l, icode),", {
+        "crates/seq_obligations/src/numbered.rt": ["pub const RULE_COUNT: u32 = 17;"],
+    }),
     ("an obligation", "crates/pipe_obligations/specs/Rules.antt", "o27 v s c y mv α cv", " ∷ o28 v s c y mv α cv", {
         "crates/pipe_obligations/specs/Rules.antt": ["rule_count = 28"],
     }),

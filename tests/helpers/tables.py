@@ -12,7 +12,8 @@ if __name__ == "__main__":
 
 from helpers.paths import TOP
 
-SIGNALS, PLUS, FIELDS, LINES = "crates/dp_signals", "crates/seq_plus", "crates/pipe_fields", "crates/pipe_requirements"
+SIGNALS, PLUS, FIELDS, FLOWS = "crates/dp_signals", "crates/seq_plus", "crates/pipe_fields", "crates/pipe_requirements"
+LINES, NUMBERS = "crates/seq_obligations", "crates/seq_requirements"
 STAGES = {"f": "Fetch", "d": "Decode", "e": "Execute", "m": "Memory", "w": "Write"}
 GROUPS = ("state", "hardware", "defined")
 
@@ -248,7 +249,7 @@ def fields_in(text, lists):
 
 def of_fields():
     spec, code, table, design = f"{FIELDS}/specs/Layout.antt", f"{FIELDS}/src/places.rt", f"{FIELDS}/src/table.rt", "crates/hazard_rules/src/design.rt"
-    coded, flows = f"{LINES}/src/lines.rt", f"{LINES}/specs/Flows.antt"
+    coded, flows = f"{FLOWS}/src/lines.rt", f"{FLOWS}/specs/Flows.antt"
     signals = sum(is_signal for _, _, is_signal in coded_fields(read(table)))
     return {
         coded: lines_coded(read(coded), coded_fields(read(table))),
@@ -260,22 +261,56 @@ def of_fields():
     }
 
 
-# ---- the obligations of PIPE
+# ---- the fields of SEQ, and of SEQ+'s line S
+
+
+def of_line():
+    """What has a member for each field of the line, in the order of the definitions' table."""
+    spec, facts, code = f"{LINES}/specs/Fields.antt", f"{LINES}/specs/Signals.antt", f"{LINES}/src/signals.rt"
+    numbers, now = f"{NUMBERS}/specs/Lines.antt", f"{NUMBERS}/src/lines.rt"
+    rows, first = [], 0
+    for bits, name in re.findall(r'field \(codes "\w+"\) (\d+) .*\(λ c\. c\.(\w+)\)$', body(read(spec), "line_fields"), re.M):
+        rows.append({"name": name, "k": len(rows), "bits": bits, "at": f" + {first}" if first else ""})
+        first += int(bits)
+
+    def written(before, row, after, text):
+        return put(rf"(?<={before}\n).*?(?=^{after})", "".join(f"{row.format(**it)}\n" for it in rows), text)
+
+    text = written("^pub record Fields : Type 0 where", "  pub {name} : ℕ", "\n", read(spec))
+    for name, value in (("line_from first", "place (first{at}) {bits}"), ("fields_by xs", "get_or xs {k} 0"), ("line_at l w", "number_at w l.{name}")):
+        text = written(rf"^{name} =\n    record \{{", f"      {{name}} = {value};", r"    \}\n", text)
+    ranges = written(r"^pub struct LineRanges \{", "    pub {name}: BitRange,", r"\}", read(code))
+    return {
+        spec: text,
+        facts: written(r"^pub record HasLine \(l : LineRanges\) \(vars : ℕ\) : Type 0 where", "  pub {name} : Within vars l.{name}", "  pub four", read(facts)),
+        numbers: put(r"^fields_in l = [^\n]*$", f"fields_in l = record {{ {'; '.join('{name} = l.{name}'.format(**it) for it in rows)} }}", read(numbers)),
+        code: written(r"^        LineRanges \{", "            {name}: place!($first{at}, {bits}),", r"        \}\n", ranges),
+        now: written(r"^pub struct LineNow \{", "    pub {name}: u64,", r"\}", read(now)),
+    }
+
+
+# ---- the obligations
 
 
 def of_obligations():
-    spec, code, gates = "crates/pipe_obligations/specs/Rules.antt", "crates/pipe_obligations/src/lib.rt", read("crates/hazard_rules/src/demands.rt")
-    demanded = len(re.findall(r"\bo\d+ v s", body(read(spec), "demands")))
-    arms = len(re.findall(r"^        \d+ => ", gates, re.M))
-    return {
-        spec: put(r"^rule_count = \d+$", f"rule_count = {demanded}", read(spec)),
-        code: put(r"^pub const RULE_COUNT: u32 = \d+;$", f"pub const RULE_COUNT: u32 = {arms};", read(code)),
+    """The number of obligations of PIPE, and of SEQ, whose last one isn't in its list."""
+    pipe, seq = "crates/pipe_obligations", LINES
+    spec, shared, code, numbered = f"{pipe}/specs/Rules.antt", f"{seq}/specs/Obligations.antt", f"{pipe}/src/lib.rt", f"{seq}/src/numbered.rt"
+    demanded = {
+        spec: len(re.findall(r"\bo\d+ v s", body(read(spec), "demands"))),
+        shared: len(re.findall(r"\bs\d+ s", body(read(shared), "shared_demands s r c α cv"))) + 1,
     }
+    arms = {
+        code: len(re.findall(r"^        \d+ => ", read("crates/hazard_rules/src/demands.rt"), re.M)),
+        numbered: len(re.findall(r"^            \d+ => ", read(f"{seq}/src/demands.rt"), re.M)) + 1,
+    }
+    made = {path: put(r"^rule_count = \d+$", f"rule_count = {count}", read(path)) for path, count in demanded.items()}
+    return made | {path: put(r"^pub const RULE_COUNT: u32 = \d+;$", f"pub const RULE_COUNT: u32 = {count};", read(path)) for path, count in arms.items()}
 
 
 def made():
     """Each file that has something that follows, and its text."""
-    return of_signals() | of_signals_in_code() | of_fields() | of_obligations()
+    return of_signals() | of_signals_in_code() | of_fields() | of_line() | of_obligations()
 
 
 if __name__ == "__main__":

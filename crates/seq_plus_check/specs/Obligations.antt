@@ -7,7 +7,7 @@ use Rattle.ctl_atoms.specs.declared.leaf.Leaf.{Leaf}
 use Rattle.ctl_atoms.specs.Leaves.{Assignment}
 use Rattle.y86_base.specs.Words.{set}
 use Rattle.ctl_rules.specs.ColumnDemands.{picks_some_leaf, next_leaf}
-use Rattle.seq_obligations.specs.Obligations.{shared_demand}
+use Rattle.seq_obligations.specs.Obligations.{rule_count, shared_demand}
 use Rattle.dp_signals.specs.declared.sequential_rows.SignalRows.{SignalRows}
 use Rattle.seq_plus.specs.PlusNames as signal
 use Rattle.seq_plus_check.specs.Fields.{Fields, allowed}
@@ -23,7 +23,7 @@ next_demand v c cv = picks_some_leaf cv signal.pc (next_leaf (row v c.icode).nex
 
 -- the demand of rule i
 unfoldable pub demand_at : Variant → ℕ → Fields → Assignment → (ℕ → Leaf) → Bool
-demand_at v i c α cv = if i == 16 then next_demand v c cv else shared_demand signals i (row v c.line.icode) c.line α cv
+demand_at v i c α cv = if i == rule_count then next_demand v c cv else shared_demand signals i (row v c.line.icode) c.line α cv
 
 -- the obligation: lines that aren't allowed meet it
 abbrev pub obligation : Variant → ℕ → Fields → Assignment → (ℕ → Leaf) → Bool

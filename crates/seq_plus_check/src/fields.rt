@@ -5,26 +5,26 @@ ghost use Rattle.seq_plus_check.specs.Rules.{places};
 
 use ctl_given::Place;
 use net_fields::FieldSpec;
-use seq_obligations::{P_CND, P_ICODE, PLUS_LINE, line_places, line_spots};
+use seq_obligations::{P_CND, P_ICODE, PLUS_LINE, line_places, line_spots, line_table};
 use seq_plus::row::{self, PLUS};
 
-static SPOTS: [FieldSpec; 9] =
-    line_spots!([P_ICODE => row::P_ICODE, P_CND => row::P_CND], PLUS_LINE, PLUS);
+static SPOTS: &[FieldSpec] =
+    &line_table!(line_spots, [P_ICODE => row::P_ICODE, P_CND => row::P_CND], PLUS_LINE, PLUS);
 
 /// The fields of a valuation in the order of its variables, those of the line P first: their bits, and the rows of
 /// their signals in SEQ+'s table.
 pub fn spots() -> &'static [FieldSpec]
     ensures { result.now ≡ spec.spots }
 {
-    &SPOTS
+    SPOTS
 }
 
-static PLACES: [Place; 9] =
-    line_places!([P_ICODE => row::P_ICODE, P_CND => row::P_CND], PLUS_LINE, PLUS);
+static PLACES: &[Place] =
+    &line_table!(line_places, [P_ICODE => row::P_ICODE, P_CND => row::P_CND], PLUS_LINE, PLUS);
 
 /// The places of the signals that are fields, in the form that the translation of a design uses.
 pub(crate) fn places() -> &'static [Place]
     ensures { result.now ≡ places }
 {
-    &PLACES
+    PLACES
 }

@@ -26,8 +26,8 @@ use hcl_types::{OrderedDesign, Table};
 use net_fields::below;
 use nets::NetBuilder;
 use seq_obligations::{
-    P_CND, P_ICODE, PLUS_BIT_COUNT, PLUS_LINE, RuleFamily, designed_rules, line_allowed,
-    shared_demand_gate,
+    P_CND, P_ICODE, PLUS_BIT_COUNT, PLUS_LINE, RULE_COUNT, RuleFamily, designed_rules,
+    line_allowed, shared_demand_gate,
 };
 use seq_plus::plus_table;
 use seq_plus::row::{P_VAL_C, P_VAL_M, P_VAL_P, PLUS};
@@ -125,7 +125,7 @@ impl RuleFamily for PlusRules {
 
     #[tactic(auto, unfolding(crate::specs::Fields::fields_of, crate::specs::Obligations::demand_at, seq_obligations::specs::Fields::line_at))]
     fn demand(&self, b: &mut NetBuilder, ctl: &Controls, number: u32) -> Result<u64, Memory> {
-        if number == 16 {
+        if number == RULE_COUNT {
             return by_icode(b, ctl, self.variant, P_ICODE, &NextPc);
         }
         shared_demand_gate(b, ctl, &PLUS, &PLUS_LINE, self.variant, number)
