@@ -1,22 +1,14 @@
 -- The output of a `no` of SEQ and of SEQ+: the obligation, the lines of the valuation, and its atoms.
-use Rattle.std.specs.Prelude.{ℕ, Bool, codes, List, [], ◌∷◌, ◌++◌}
+use Rattle.std.specs.Prelude.{ℕ, Bool, codes, List, [], ◌∷◌, ◌++◌, map}
 use Rattle.y86_base.specs.Numeral.{numeral}
 use Rattle.ctl_atoms.specs.declared.leaf.Atom.{Atom}
-use Rattle.seq_obligations.specs.Fields.{Fields, bit_count, fields_of, plus_bit_count}
+use Rattle.seq_obligations.specs.Fields.{Fields, LineField, bit_count, fields_of, line_fields, plus_bit_count}
 use Rattle.verdict_text.specs.Atoms.{atoms_line}
 use Rattle.verdict_text.specs.Fields.{Labelled, field, labelled_line}
 
 -- the numbers of the line S
 unfoldable pub seq_numbers : Fields → List Labelled
-seq_numbers c =
-    field (codes "error") c.error
-    ∷ field (codes "icode") c.icode
-    ∷ field (codes "ifun") c.ifun
-    ∷ field (codes "rA") c.r_a
-    ∷ field (codes "rB") c.r_b
-    ∷ field (codes "cnd") c.cnd
-    ∷ field (codes "derror") c.derror
-    ∷ []
+seq_numbers c = map (λ (x : LineField). field x.label (x.number c)) line_fields
 
 -- those of the line P of SEQ+: the icode of the previous instruction, and whether its condition held
 unfoldable pub previous_numbers : ℕ → ℕ → List Labelled

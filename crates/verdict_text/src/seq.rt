@@ -11,7 +11,7 @@ use ctl_atoms::Atom;
 use hcl_types::Row;
 use net_fields::BitRange;
 use nets::Valuation;
-use seq_obligations::{BIT_COUNT, LINE, P_CND, P_ICODE, PLUS_BIT_COUNT, PLUS_LINE};
+use seq_obligations::{BIT_COUNT, LINE, P_CND, P_ICODE, PLUS_BIT_COUNT, PLUS_LINE, line_table};
 use std::alloc::Global;
 use y86_base::{Memory, put, put_decimal};
 
@@ -29,23 +29,15 @@ macro_rules! shown_field {
 }
 
 /// The fields of a line S at these places.
-macro_rules! line_fields {
-    ($line:expr) => {
-        [
-            shown_field!("error", $line.error),
-            shown_field!("icode", $line.icode),
-            shown_field!("ifun", $line.ifun),
-            shown_field!("rA", $line.r_a),
-            shown_field!("rB", $line.r_b),
-            shown_field!("cnd", $line.cnd),
-            shown_field!("derror", $line.derror),
-        ]
+macro_rules! shown_line {
+    ($line:expr; $($field:ident $label:literal $signal:ident),*) => {
+        [$(shown_field!($label, $line.$field)),*]
     };
 }
 
-static FIELDS: [ShownField; 7] = line_fields!(LINE);
+static FIELDS: &[ShownField] = &line_table!(shown_line, LINE);
 
-static PLUS_FIELDS: [ShownField; 7] = line_fields!(PLUS_LINE);
+static PLUS_FIELDS: &[ShownField] = &line_table!(shown_line, PLUS_LINE);
 
 static PREVIOUS_FIELDS: [ShownField; 2] = [
     shown_field!("icode", P_ICODE),
@@ -58,7 +50,7 @@ pub fn seq_fields() -> &'static [ShownField]
     ensures shown { (w : List Bool) → shown w result.now ≡ seq_numbers (fields_of w) }
     ensures few { are_few result.now ≡ true }
 {
-    &FIELDS
+    FIELDS
 }
 
 /// The fields of the line S of SEQ+ in the output.
@@ -67,7 +59,7 @@ pub fn plus_fields() -> &'static [ShownField]
     ensures shown { (w : List Bool) → shown w result.now ≡ seq_numbers (line_at plus_line w) }
     ensures few { are_few result.now ≡ true }
 {
-    &PLUS_FIELDS
+    PLUS_FIELDS
 }
 
 /// The fields of the line P of SEQ+ in the output.
