@@ -1,5 +1,5 @@
 //! Which changes of stall and bubble signals meet all obligations on motion.
-ghost use Rattle.std.specs.Prelude.{◌≡◌, ◌≤◌, ◌==◌, IfOk, filter, if◌then◌else◌};
+ghost use Rattle.std.specs.Prelude.{◌≡◌, ◌&&◌, IfOk, filter};
 ghost use Rattle.control_values.specs.Given.{at};
 ghost use Rattle.pipe_requirements.specs.Requirements.{unread};
 ghost use Rattle.pipe_requirements.specs.Flows.{fields_in, as_register_control, as_register_controls, as_flow};
@@ -7,7 +7,7 @@ ghost use Rattle.pipe_obligations.specs.Obligations as rule;
 ghost use Rattle.motion_repairs.specs.Changes as spec;
 
 use crate::fetch::{fetched, is_fetch_good, picks_leaf};
-use crate::moves::is_met;
+use crate::moves::registers_move_well;
 use ctl_atoms::{Leaf, same_leaf};
 use dp_signals::pipe_row as name;
 use hcl_types::NameId;
@@ -83,29 +83,23 @@ fn met_11(n: &Now<'_>) -> bool
     !leaves(n.mv, n.y) || picks_right_value(n, false, name::D_VAL_B, name::D_SRC_B, name::D_RVAL_B)
 }
 
-/// An obligation from 23 to 27 is met.
-fn moves_well(n: &Now<'_>, number: u32) -> bool
-    requires first { 23 ≤ number }
-    requires last { number ≤ 27 }
-    ensures { result ≡ (if number == 23 then rule.o23 n.now.v n.now.s.now (fields_in n.now.l.now) (as_flow n.now.y.now) (as_register_controls n.now.mv.now) unread (at n.now.leaves.now)
-        else (if number == 24 then rule.o24 n.now.v n.now.s.now (fields_in n.now.l.now) (as_flow n.now.y.now) (as_register_controls n.now.mv.now) unread (at n.now.leaves.now)
-        else (if number == 25 then rule.o25 n.now.v n.now.s.now (fields_in n.now.l.now) (as_flow n.now.y.now) (as_register_controls n.now.mv.now) unread (at n.now.leaves.now)
-        else (if number == 26 then rule.o26 n.now.v n.now.s.now (fields_in n.now.l.now) (as_flow n.now.y.now) (as_register_controls n.now.mv.now) unread (at n.now.leaves.now)
-        else rule.o27 n.now.v n.now.s.now (fields_in n.now.l.now) (as_flow n.now.y.now) (as_register_controls n.now.mv.now) unread (at n.now.leaves.now))))) }
+/// The obligations from 23 on are met.
+fn moves_well(n: &Now<'_>) -> bool
+    ensures { result ≡ (rule.o23 n.now.v n.now.s.now (fields_in n.now.l.now) (as_flow n.now.y.now) (as_register_controls n.now.mv.now) unread (at n.now.leaves.now)
+        && (rule.o24 n.now.v n.now.s.now (fields_in n.now.l.now) (as_flow n.now.y.now) (as_register_controls n.now.mv.now) unread (at n.now.leaves.now)
+        && (rule.o25 n.now.v n.now.s.now (fields_in n.now.l.now) (as_flow n.now.y.now) (as_register_controls n.now.mv.now) unread (at n.now.leaves.now)
+        && (rule.o26 n.now.v n.now.s.now (fields_in n.now.l.now) (as_flow n.now.y.now) (as_register_controls n.now.mv.now) unread (at n.now.leaves.now)
+        && rule.o27 n.now.v n.now.s.now (fields_in n.now.l.now) (as_flow n.now.y.now) (as_register_controls n.now.mv.now) unread (at n.now.leaves.now))))) }
 {
     let facts = fetched(n);
-    is_met(n, is_fetch_good(n), &facts, number)
+    registers_move_well(n, is_fetch_good(n), &facts)
 }
 
 /// Whether all obligations on motion are met.
 pub fn meets_motion(n: &Now<'_>) -> bool
     ensures { result ≡ spec.meets_motion n.now.v n.now.s.now (fields_in n.now.l.now) (as_flow n.now.y.now) (as_register_controls n.now.mv.now) unread (at n.now.leaves.now) }
 {
-    met_10(n)
-        && (met_11(n)
-            && (moves_well(n, 23)
-                && (moves_well(n, 24)
-                    && (moves_well(n, 25) && (moves_well(n, 26) && moves_well(n, 27))))))
+    met_10(n) && (met_11(n) && moves_well(n))
 }
 
 /// Whether they are met with one of the signals inverted.

@@ -13,5 +13,5 @@ mod pairs;
 
 pub use changes::{meets_motion, pc_repairs, signal_repairs, with_inverted};
 pub use fetch::{fetched, is_fetch_good};
-pub use moves::{is_met, next_flow, path, youngest_stops};
+pub use moves::{next_flow, path, registers_move_well, youngest_stops};
 pub use pairs::{Pair, Repairs, repairs_of};

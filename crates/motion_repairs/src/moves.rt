@@ -1,5 +1,5 @@
-//! The next cycle's flow, and the obligations 23 to 27, computed from the flow of the stages.
-ghost use Rattle.std.specs.Prelude.{◌≡◌, ◌≤◌, ◌==◌, if◌then◌else◌, true};
+//! The next cycle's flow, and the obligations from 23 on, computed from the flow of the stages.
+ghost use Rattle.std.specs.Prelude.{◌≡◌, ◌&&◌};
 ghost use Rattle.pipe_requirements.specs.Flows.{as_register_control, as_register_controls, as_stage_flow, as_flow};
 ghost use Rattle.pipe_motion.specs.Flow as spec;
 
@@ -263,22 +263,16 @@ fn met_27(k: &RegisterControlsNow, y: &FlowNow) -> bool
     !(is_bubble(&y.d) && is_drained(y)) || loads(k.d)
 }
 
-/// Whether an obligation from 23 to 27 is met.
-pub fn is_met(n: &Now<'_>, good: bool, facts: &StageFlowNow, rule: u32) -> bool
-    requires first { 23 ≤ rule }
-    requires last { rule ≤ 27 }
-    ensures { result ≡ (if rule == 23 then spec.o23 (as_register_controls n.now.mv.now)
-        else (if rule == 24 then spec.o24 (as_register_controls n.now.mv.now) (as_flow n.now.y.now)
-        else (if rule == 25 then spec.o25 n.now.s.now.je n.now.s.now.rm (as_register_controls n.now.mv.now) good (as_stage_flow facts.now) (as_flow n.now.y.now)
-        else (if rule == 26 then spec.o26 (as_register_controls n.now.mv.now) (as_flow n.now.y.now)
-        else spec.o27 (as_register_controls n.now.mv.now) (as_flow n.now.y.now))))) }
+/// Whether the obligations from 23 on are met.
+pub fn registers_move_well(n: &Now<'_>, good: bool, facts: &StageFlowNow) -> bool
+    ensures { result ≡ (spec.o23 (as_register_controls n.now.mv.now)
+        && (spec.o24 (as_register_controls n.now.mv.now) (as_flow n.now.y.now)
+        && (spec.o25 n.now.s.now.je n.now.s.now.rm (as_register_controls n.now.mv.now) good (as_stage_flow facts.now) (as_flow n.now.y.now)
+        && (spec.o26 (as_register_controls n.now.mv.now) (as_flow n.now.y.now)
+        && spec.o27 (as_register_controls n.now.mv.now) (as_flow n.now.y.now))))) }
 {
-    match rule {
-        23 => met_23(n.mv),
-        24 => met_24(n.mv, n.y),
-        25 => met_25(n.s.je, n.s.rm, n.mv, good, facts, n.y),
-        26 => met_26(n.mv, n.y),
-        27 => met_27(n.mv, n.y),
-        _ => unreachable!(),
-    }
+    met_23(n.mv)
+        && (met_24(n.mv, n.y)
+            && (met_25(n.s.je, n.s.rm, n.mv, good, facts, n.y)
+                && (met_26(n.mv, n.y) && met_27(n.mv, n.y))))
 }
