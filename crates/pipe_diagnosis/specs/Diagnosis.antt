@@ -1,5 +1,5 @@
 -- The diagnosis of a valuation at which an obligation of PIPE is false.
-use Rattle.std.specs.Prelude.{ℕ, ◌≡◌, ◌≤◌, Bool, false, List, map}
+use Rattle.std.specs.Prelude.{ℕ, ◌≡◌, ◌<◌, Bool, false, List, map}
 use Rattle.y86_base.specs.declared.parts.Variant.{Variant}
 use Rattle.hcl_types.specs.declared.term.Term.{Term}
 use Rattle.ctl_atoms.specs.declared.leaf.Leaf.{Leaf}
@@ -14,7 +14,7 @@ use Rattle.pipe_obligations.specs.Rules.{obligation}
 use Rattle.pipe_obligations.specs.FileSettings.{PipeControls}
 use Rattle.pipe_obligations.specs.StageFlows.{flow_of}
 use Rattle.findings.specs.Findings.{are_right, finding}
-use Rattle.pipe_requirements.specs.Requirements.{requirements, unread}
+use Rattle.pipe_requirements.specs.Requirements.{first_on_motion, requirements, unread}
 use Rattle.motion_repairs.specs.Pairs.{AreRepairs}
 use Rattle.pipe_diagnosis.specs.declared.diagnosis.Diagnosis.{Diagnosis}
 
@@ -27,10 +27,10 @@ pub record IsDiagnosis (v : Variant) (terms : List Term) (s : Settings) (atoms :
   pub atoms_are : AtomsAre atoms bit_count w (assigned atoms bit_count w)
   pub controls : PipeControls terms (fields_of w) (assigned atoms bit_count w) (at diagnosis.leaves)
   pub false_there : obligation v s atoms i (fields_of w) (assigned atoms bit_count w) (at diagnosis.leaves) ≡ false
-  -- a finding for each requirement; an obligation from 23 on has none
+  -- a finding for each requirement; an obligation on motion has none
   pub findings : diagnosis.findings
       ≡ map (finding signal.f_pc terms (assigned atoms bit_count w) (at diagnosis.leaves)) (requirements v s (fields_of w) (flow_of v s (fields_of w)) (register_controls_of (assigned atoms bit_count w) (at diagnosis.leaves)) (at diagnosis.leaves) i)
-  -- of the requirements of an obligation from 1 to 22, at least one isn't met
-  pub one_wrong : i ≤ 22 → are_right diagnosis.findings ≡ false
+  -- of the requirements of an obligation before those on motion, at least one isn't met
+  pub one_wrong : i < first_on_motion → are_right diagnosis.findings ≡ false
   -- the changes that would meet all obligations on motion
   pub repairs : AreRepairs v s (fields_of w) (flow_of v s (fields_of w)) (register_controls_of (assigned atoms bit_count w) (at diagnosis.leaves)) unread diagnosis.leaves diagnosis.repairs

@@ -24,7 +24,8 @@ use hcl_types::NameId;
 use motion_repairs::{Repairs, repairs_of};
 use pipe_fields::{BIT_COUNT, field_specs};
 use pipe_requirements::{
-    Now, RegisterControlNow, RegisterControlsNow, flow_of, lines_of, requirements_of,
+    FIRST_ON_MOTION, Now, RegisterControlNow, RegisterControlsNow, flow_of, lines_of,
+    requirements_of,
 };
 use std::alloc::Global;
 use y86_base::{Items, Memory};
@@ -41,7 +42,7 @@ struct FindingsAndRepairs {
 pub struct Diagnosis {
     /// The control value of each row of the table.
     pub leaves: Items<Leaf>,
-    /// A finding for each signal of an obligation from 1 to 22.
+    /// A finding for each signal of an obligation before those on motion.
     pub findings: Items<Finding>,
     /// The changes that would meet all obligations on motion.
     pub repairs: Repairs,
@@ -84,13 +85,13 @@ pub fn register_controls_at(scope: &Scope<'_>) -> RegisterControlsNow
     }
 }
 
-/// What an obligation requires of each signal; one from 23 on requires nothing of a single signal.
+/// What an obligation requires of each signal; one on motion requires nothing of a single signal.
 #[tactic(auto, using(crate::proofs::OneWrong::none_behind))]
 fn requirements_at(alloc: Global, n: &Now<'_>, number: u32) -> Result<Vec<Requirement>, Memory>
     requires { 1 ≤ number }
     ensures { IfOk result (λ r. r.items ≡ requirements n.now.v n.now.s.now (fields_in n.now.l.now) (as_flow n.now.y.now) (as_register_controls n.now.mv.now) (at n.now.leaves.now) number) }
 {
-    if number <= 22 {
+    if number < FIRST_ON_MOTION {
         requirements_of(alloc, n, number)
     } else {
         Ok(Vec::new(alloc))

@@ -1,6 +1,6 @@
 //! A diagnosis of one counterexample: an obligation of PIPE, and a valuation at which it is false.
 //!
-//! For an obligation from 1 to 22 it says, for each signal, what the obligation requires and what the file picks. At
+//! For an obligation before those on motion it says, for each signal, what the obligation requires and what the file picks. At
 //! least one signal is wrong. For an obligation on motion it says which changes of stall and bubble signals and of
 //! `f_pc` meet all obligations on motion.
 #![tactic(auto)]

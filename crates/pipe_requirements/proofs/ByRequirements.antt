@@ -1,5 +1,5 @@
 -- An obligation is met exactly where each of its requirements is.
-use Rattle.std.proofs.Common.{◌≡◌, ℕ, ◌≤◌, Bool, true, false, ◌&&◌, ◌||◌, [], ◌∷◌, get_or, refl, ap, arith}
+use Rattle.std.proofs.Common.{◌≡◌, ℕ, ◌<◌, ◌≤◌, Bool, true, false, ◌&&◌, ◌||◌, [], ◌∷◌, get_or, refl, ap}
 use Rattle.y86_base.specs.declared.parts.Variant.{Variant}
 use Rattle.y86_base.specs.Words.{set}
 use Rattle.net_fields.proofs.EachBelow.{EachFrom, ◌▹◌, no_more, each_below}
@@ -21,7 +21,7 @@ use Rattle.dp_signals.specs.PipeNames as signal
 use Rattle.findings.specs.Requirements.{is_met, requirement_of, word, only_if, unless}
 use Rattle.findings.specs.declared.requirement.Wanted.TheVariants as wanted
 use Rattle.findings.proofs.EachMet.{one, two, if_both, guarded, excused, both, some_is}
-use Rattle.pipe_requirements.specs.Requirements.{right_word, required1, required5, required10, required11, required12, required13, required14, required16, required17, required18, required19, required21, required, requirements, IsByRequirements}
+use Rattle.pipe_requirements.specs.Requirements.{right_word, required1, required5, required10, required11, required12, required13, required14, required16, required17, required18, required19, required21, required, first_on_motion, requirements, IsByRequirements}
 
 four : (a b c d : Bool) → (a && (b && (c && d))) ≡ (a && (b && (c && (d && true))))
 four true true c d = two c d
@@ -82,7 +82,7 @@ module _ (v : Variant) (s : Settings) (c : Fields) (y : Flow) (mv : RegisterCont
   IsSaid n = get_or (true ∷ demands v s c y mv α cv) n true ≡ each (is_met α cv) (get_or ([] ∷ required v s c y mv cv) n [])
 
   -- no obligation has number 0
-  each_said : EachFrom IsSaid 0 23
+  each_said : EachFrom IsSaid 0 first_on_motion
   each_said =
       refl ▹
       at1 ▹
@@ -109,6 +109,6 @@ module _ (v : Variant) (s : Settings) (c : Fields) (y : Flow) (mv : RegisterCont
       (one _) ▹
       no_more
 
-  pub by_requirements : (i : ℕ) → 1 ≤ i → i ≤ 22 → IsByRequirements v s c y mv α cv i
+  pub by_requirements : (i : ℕ) → 1 ≤ i → i < first_on_motion → IsByRequirements v s c y mv α cv i
   unfolding requirements
-  by_requirements i ge le = each_below IsSaid 23 each_said i (omega (arith, le))
+  by_requirements i ge lt = each_below IsSaid first_on_motion each_said i lt

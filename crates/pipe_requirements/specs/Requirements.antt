@@ -1,4 +1,4 @@
--- What the obligations 1 to 22 require at a valuation, signal by signal.
+-- What the obligations before those on motion require at a valuation, signal by signal.
 -- An obligation is met exactly where each requirement is (`IsByRequirements`).
 use Rattle.std.specs.Prelude.{ℕ, ◌≡◌, Bool, false, ◌&&◌, ◌||◌, List, [], ◌∷◌, ◌++◌, get_or, if◌then◌else◌}
 use Rattle.y86_base.specs.declared.parts.Variant.{Variant}
@@ -22,6 +22,10 @@ use Rattle.dp_signals.specs.PipeNames as signal
 use Rattle.findings.specs.Requirements.{is_met, requirement_of, word, number, truth, some_word, only_if, unless}
 use Rattle.findings.specs.declared.requirement.Requirement.{Requirement}
 use Rattle.findings.specs.declared.requirement.Wanted.TheVariants as wanted
+
+-- the first obligation on motion: those before it require something of signals; it and those behind it don't
+abbrev pub first_on_motion : ℕ
+first_on_motion = 23
 
 -- requirements and motion don't read the truth of any atom
 abbrev pub unread : Assignment
@@ -122,7 +126,7 @@ module _ (v : Variant) (s : Settings) (c : Fields) (y : Flow) (mv : RegisterCont
   abbrev pub required22 : List Requirement
   required22 = number signal.Stat (if y.w.good then c.w.stat else 1)
 
-  -- what the obligations 1 to 22 require, in their order
+  -- what the obligations before those on motion require, in their order
   abbrev pub required : List (List Requirement)
   required =
       required1 ∷ required2 ∷ required3 ∷ required4 ∷ required5 ∷ required6 ∷ required7 ∷ required8 ∷

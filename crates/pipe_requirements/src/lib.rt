@@ -1,8 +1,8 @@
 //! What PIPE's obligations require of each signal at a valuation, as data.
 //!
-//! Each of the obligations 1 to 22 is met exactly where each of its requirements is (`law_of_requirements`).
+//! Each of the obligations before those on motion is met exactly where each of its requirements is (`law_of_requirements`).
 //! For example obligation 20 requires `m_stat` to be ADR if the memory reports an error, and M's status otherwise.
-//! The obligations 23 to 27 require nothing of a single signal: `motion_repairs` is about these.
+//! Those on motion require nothing of a single signal: `motion_repairs` is about these.
 #![tactic(auto)]
 
 mod flow;
@@ -10,6 +10,9 @@ mod laws;
 mod lines;
 mod listing;
 mod now;
+
+/// The first obligation on motion: it and those behind it require nothing of a single signal.
+pub const FIRST_ON_MOTION: u32 = 23;
 
 pub use findings::{Requirement, Wanted, is_number, leaf_at, set};
 pub use flow::{

@@ -1,5 +1,5 @@
-//! What each of the obligations 1 to 22 requires at a valuation.
-ghost use Rattle.std.specs.Prelude.{◌≡◌, ◌≤◌, ◌++◌, ◌∷◌, [], IfOk, OnOk, if◌then◌else◌};
+//! What each of the obligations before those on motion requires at a valuation.
+ghost use Rattle.std.specs.Prelude.{◌≡◌, ◌<◌, ◌≤◌, ◌++◌, ◌∷◌, [], IfOk, OnOk, if◌then◌else◌};
 ghost use Rattle.control_values.specs.Given.{at};
 ghost use Rattle.pipe_requirements.specs.Requirements as spec;
 ghost use Rattle.pipe_requirements.specs.Flows.{fields_in, as_register_controls, as_flow};
@@ -298,11 +298,11 @@ fn put_22(out: &mut Vec<Requirement>, n: &Now<'_>) -> Result<(), Memory>
     put_number(out, name::STAT, if n.y.w.good { n.l.w.stat } else { 1 })
 }
 
-/// What an obligation from 1 to 22 requires.
+/// What an obligation before those on motion requires.
 #[tactic(auto, unfolding(crate::specs::Requirements::requirements))]
 fn put_required(out: &mut Vec<Requirement>, n: &Now<'_>, rule: u32) -> Result<(), Memory>
     requires first { 1 ≤ rule }
-    requires last { rule ≤ 22 }
+    requires last { rule < spec.first_on_motion }
     ensures { OnOk result (out.new.items ≡ out.old.items ++ spec.requirements n.now.v n.now.s.now (fields_in n.now.l.now) (as_flow n.now.y.now) (as_register_controls n.now.mv.now) (at n.now.leaves.now) rule) }
 {
     match rule {
@@ -332,10 +332,10 @@ fn put_required(out: &mut Vec<Requirement>, n: &Now<'_>, rule: u32) -> Result<()
     }
 }
 
-/// What an obligation from 1 to 22 requires, signal by signal.
+/// What an obligation before those on motion requires, signal by signal.
 pub fn requirements_of(alloc: Global, n: &Now<'_>, rule: u32) -> Result<Vec<Requirement>, Memory>
     requires first { 1 ≤ rule }
-    requires last { rule ≤ 22 }
+    requires last { rule < spec.first_on_motion }
     ensures { IfOk result (λ r. r.items ≡ spec.requirements n.now.v n.now.s.now (fields_in n.now.l.now) (as_flow n.now.y.now) (as_register_controls n.now.mv.now) (at n.now.leaves.now) rule) }
 {
     let mut out = Vec::new(alloc);

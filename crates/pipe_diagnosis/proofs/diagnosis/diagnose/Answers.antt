@@ -47,7 +47,7 @@ returns c =
         controls = controls;
         false_there = false_there;
         findings = findings;
-        one_wrong = λ le. ap are_right findings ∙ one_wrong v terms s atoms i w α cv c.requires.first le false_there;
+        one_wrong = λ lt. ap are_right findings ∙ one_wrong v terms s atoms i w α cv c.requires.first lt false_there;
         repairs = subst (λ (xs : List Leaf). AreRepairs v s (fields_of w) (flow_of v s (fields_of w)) (register_controls_of α (at xs)) unread xs c.in_ok-found.found.repairs) same c.in_ok-found.ensures.repairs;
       };
     }
