@@ -103,9 +103,18 @@ pub fn prediction_premise(
     b.and(fits, here)
 }
 
+/// The obligation on the flags.
+const ON_FLAGS: u64 = 15;
+
+/// The obligation on reads and writes of memory.
+const ON_MEMORY: u64 = 19;
+
+/// The obligation on the status of the machine.
+const ON_STATUS: u64 = 22;
+
 /// The obligations on the flags, memory and the status are demanded in cycles that stop too.
 pub fn is_always_demanded(number: u64) -> bool
     ensures { result ≡ rules.is_always_demanded number }
 {
-    number == 15 || number == 19 || number == 22
+    number == ON_FLAGS || number == ON_MEMORY || number == ON_STATUS
 }
