@@ -3,7 +3,7 @@ use crate::mending::{first_to_mend, is_motion};
 use crate::motion::{Motion, motion_faults, motion_of};
 use crate::scene::{Scene, scene_of};
 use crate::settings::put_settings_json;
-use crate::stages::kind_name;
+use crate::stages::held_name;
 use explanations::obligation_at;
 use finding_text::{
     CasePlace, ExplainedFile, Out, put_comparison_facts, put_finding_facts, put_mend_first,
@@ -12,7 +12,7 @@ use finding_text::{
 use hcl_types::{Datapath, NameId};
 use pipe_diagnosis::{Refusal, Refutation};
 use pipe_fields::StageLine;
-use pipe_requirements::{Lines, RegisterControlNow, StageFlowNow};
+use pipe_requirements::{FlowNow, RegisterControlNow, StageFlowNow};
 use std::alloc::{AllocError, Global};
 use verdict_text::line_fields;
 use y86_base::Variant;
@@ -25,22 +25,22 @@ fn put_numbers(out: &mut Out, bits: &[bool], line: StageLine) -> Result<(), Allo
     Ok(())
 }
 
-/// Writes the line of a stage that holds something of this kind.
+/// Writes the line of a stage with this flow.
 fn put_stage(
     out: &mut Out,
     letter: &str,
-    kind: u64,
+    stage: &StageFlowNow,
     bits: &[bool],
     line: StageLine,
 ) -> Result<(), AllocError> {
     out.key(letter)?;
     out.begin_object()?;
-    put_text(out, "kind", kind_name(kind))?;
+    put_text(out, "kind", held_name(stage))?;
     put_numbers(out, bits, line)?;
     out.end_object()
 }
 
-fn put_situation(out: &mut Out, scene: &Scene<'_>, l: &Lines) -> Result<(), AllocError> {
+fn put_situation(out: &mut Out, scene: &Scene<'_>, y: &FlowNow) -> Result<(), AllocError> {
     let bits = scene.values.bits;
     out.key("counterexample")?;
     out.begin_object()?;
@@ -48,10 +48,10 @@ fn put_situation(out: &mut Out, scene: &Scene<'_>, l: &Lines) -> Result<(), Allo
     out.begin_object()?;
     put_numbers(out, bits, StageLine::F)?;
     out.end_object()?;
-    put_stage(out, "D", l.d.kind, bits, StageLine::D)?;
-    put_stage(out, "E", l.e.kind, bits, StageLine::E)?;
-    put_stage(out, "M", l.m.kind, bits, StageLine::M)?;
-    put_stage(out, "W", l.w.kind, bits, StageLine::W)?;
+    put_stage(out, "D", &y.d, bits, StageLine::D)?;
+    put_stage(out, "E", &y.e, bits, StageLine::E)?;
+    put_stage(out, "M", &y.m, bits, StageLine::M)?;
+    put_stage(out, "W", &y.w, bits, StageLine::W)?;
     put_comparison_facts(out, &scene.values)?;
     out.end_object()
 }
@@ -81,17 +81,7 @@ fn put_register_control(
     put_truth(out, "stall", control.stall)?;
     put_truth(out, "bubble", control.bubble)?;
     if let Some(stage) = next {
-        put_text(
-            out,
-            "next",
-            if stage.good {
-                "program"
-            } else if stage.wrong {
-                "wrong path"
-            } else {
-                "bubble"
-            },
-        )?;
+        put_text(out, "next", held_name(stage))?;
     }
     out.end_object()
 }
@@ -161,7 +151,7 @@ fn put_refutation(
     let motion = motion_of(scene);
     out.begin_object()?;
     put_obligation_facts(out, obligation_at(Datapath::Pipe, refutation.rule))?;
-    put_situation(out, scene, &motion.lines)?;
+    put_situation(out, scene, &motion.view)?;
     put_finding_facts(
         alloc,
         out,

@@ -3,12 +3,13 @@ use crate::scene::scene_of;
 use finding_text::{ExplainedFile, first_alone, put_once, put_wrong};
 use hcl_types::NameId;
 use pipe_diagnosis::{Refusal, Refutation};
+use pipe_requirements::FIRST_ON_MOTION;
 use std::alloc::{AllocError, Global};
 use y86_base::Variant;
 
 /// Whether an obligation depends on motion: O10, O11 and O23 to O27.
 pub fn is_motion(rule: u32) -> bool {
-    rule == 10 || rule == 11 || rule >= 23
+    rule == 10 || rule == 11 || rule >= FIRST_ON_MOTION
 }
 
 /// The signals that are wrong at a counterexample: those of its findings and, for O23 to O27, those that repairs
@@ -16,7 +17,7 @@ pub fn is_motion(rule: u32) -> bool {
 pub fn wrong_signals(alloc: Global, refutation: &Refutation) -> Result<Vec<NameId>, AllocError> {
     let mut out: Vec<NameId> = Vec::new(alloc);
     put_wrong(&mut out, refutation.diagnosis.findings.items())?;
-    if refutation.rule >= 23 {
+    if refutation.rule >= FIRST_ON_MOTION {
         let repairs = &refutation.diagnosis.repairs;
         for signal in repairs.invert.items() {
             put_once(&mut out, *signal)?;

@@ -1,10 +1,12 @@
 //! What goes wrong in the motion of the pipeline registers, in sentences.
 use crate::scene::Scene;
+use crate::stages::{Held, held_in};
 use motion_repairs::{fetched, is_fetch_good, next_flow, path, youngest_stops};
 use pipe_diagnosis::register_controls_at;
+use pipe_obligations::RULE_COUNT;
 use pipe_requirements::{
-    FlowNow, Lines, Now, RegisterControlNow, RegisterControlsNow, StageFlowNow, flow_of, leaves,
-    lines_of, loads,
+    FIRST_ON_MOTION, FlowNow, Lines, Now, RegisterControlNow, RegisterControlsNow, StageFlowNow,
+    flow_of, leaves, lines_of, loads,
 };
 use std::alloc::{AllocError, Global};
 
@@ -67,12 +69,10 @@ pub fn move_name(control: RegisterControlNow) -> &'static str {
 
 /// What a register holds.
 pub fn stage_flow_name(stage: &StageFlowNow) -> &'static str {
-    if stage.good {
-        "an instruction of the program"
-    } else if stage.wrong {
-        "an instruction on the wrong path"
-    } else {
-        "a bubble"
+    match held_in(stage) {
+        Held::Bubble => "a bubble",
+        Held::Program => "an instruction of the program",
+        Held::WrongPath => "an instruction on the wrong path",
     }
 }
 
@@ -230,7 +230,47 @@ fn add_waits(said: &mut Sentences, m: &Motion) -> Result<(), AllocError> {
     )
 }
 
-/// What is wrong with the motion at the counterexample of an obligation.
+/// What an obligation on motion forbids.
+#[derive(Clone, Copy)]
+enum Forbidden {
+    Clashes,
+    Losses,
+    WrongPath,
+    Waits,
+}
+
+/// The number of obligations on motion.
+const MOTION_COUNT: usize = (RULE_COUNT - FIRST_ON_MOTION + 1) as usize;
+
+/// What each obligation on motion forbids.
+static FORBIDDEN: [Forbidden; MOTION_COUNT] = [
+    Forbidden::Clashes,
+    Forbidden::Losses,
+    Forbidden::WrongPath,
+    Forbidden::Waits,
+    Forbidden::Waits,
+];
+
+/// Adds what is wrong with the motion.
+fn add_faults(
+    said: &mut Sentences,
+    scene: &Scene<'_>,
+    m: &Motion,
+    forbidden: Forbidden,
+) -> Result<(), AllocError> {
+    match forbidden {
+        Forbidden::Clashes => add_clashes(said, &m.controls),
+        Forbidden::Losses => add_losses(said, &m.controls, &m.view),
+        Forbidden::WrongPath => {
+            add_wrong_path(said, &m.next)?;
+            add_followers(said, &m.next, scene.settings.je, scene.settings.rm)?;
+            add_fetch(said, m)
+        }
+        Forbidden::Waits => add_waits(said, m),
+    }
+}
+
+/// What is wrong with the motion at the counterexample of an obligation; nothing if it isn't on motion.
 pub fn motion_faults(
     alloc: Global,
     scene: &Scene<'_>,
@@ -240,17 +280,9 @@ pub fn motion_faults(
     let mut said = Sentences {
         all: Vec::new(alloc),
     };
-    match rule {
-        23 => add_clashes(&mut said, &m.controls)?,
-        24 => add_losses(&mut said, &m.controls, &m.view)?,
-        25 => {
-            add_wrong_path(&mut said, &m.next)?;
-            add_followers(&mut said, &m.next, scene.settings.je, scene.settings.rm)?;
-            add_fetch(&mut said, m)?;
-        }
-        26 => add_waits(&mut said, m)?,
-        27 => add_waits(&mut said, m)?,
-        _ => {}
+    let place = u32::wrapping_sub(rule, FIRST_ON_MOTION) as usize;
+    if let Some(forbidden) = FORBIDDEN.get(place).copied() {
+        add_faults(&mut said, scene, m, forbidden)?;
     }
     Ok(said.all)
 }

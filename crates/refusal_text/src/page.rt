@@ -12,7 +12,7 @@ use finding_text::{
 use hcl_types::{Datapath, NameId};
 use motion_repairs::Repairs;
 use pipe_diagnosis::{Refusal, Refutation};
-use pipe_requirements::Wanted;
+use pipe_requirements::{FIRST_ON_MOTION, Wanted};
 use std::alloc::{AllocError, Global};
 use y86_base::Variant;
 
@@ -298,7 +298,7 @@ fn put_others<'a>(
 
 /// Whether stalls and bubbles are to blame: for O23 to O27, and if no value of some signal would be right.
 fn moves_wrongly(rule: u32, refutation: &Refutation) -> bool {
-    let mut waits = rule >= 23;
+    let mut waits = rule >= FIRST_ON_MOTION;
     for finding in refutation.diagnosis.findings.items() {
         if finding.requirement.wanted == Wanted::Nothing {
             waits = true;
@@ -325,9 +325,9 @@ pub fn put_refusal<'a>(
         put_obligation(alloc, out, o)?;
     }
     out.push_str("\nThe smallest counterexample:\n\n")?;
-    put_stages(out, &motion.lines)?;
+    put_stages(out, &motion.lines, &motion.view)?;
     put_comparisons(out, &scene.values)?;
-    if rule <= 22 {
+    if rule < FIRST_ON_MOTION {
         let findings = refusal.first.diagnosis.findings.items();
         put_findings(alloc, out, &scene.values, file.cases, findings)?;
     }

@@ -1,14 +1,35 @@
 //! The situation of a counterexample, a line for each stage.
 use finding_text::{instruction, mnemonic, put_register, status};
-use pipe_requirements::{DecodeLine, ExecuteLine, FetchLine, Lines, MemoryLine, WriteLine};
+use pipe_requirements::{
+    DecodeLine, ExecuteLine, FetchLine, FlowNow, Lines, MemoryLine, StageFlowNow, WriteLine,
+};
 use std::alloc::AllocError;
 
 /// What a pipeline register holds: a bubble, an instruction of the program, or one on the wrong path.
-pub fn kind_name(kind: u64) -> &'static str {
-    match kind {
-        1 => "program",
-        2 => "wrong path",
-        _ => "bubble",
+#[derive(Clone, Copy, PartialEq, Eq)]
+pub enum Held {
+    Bubble,
+    Program,
+    WrongPath,
+}
+
+/// What a pipeline register with this flow holds.
+pub fn held_in(stage: &StageFlowNow) -> Held {
+    if stage.good {
+        Held::Program
+    } else if stage.wrong {
+        Held::WrongPath
+    } else {
+        Held::Bubble
+    }
+}
+
+/// The name of what a pipeline register holds.
+pub fn held_name(stage: &StageFlowNow) -> &'static str {
+    match held_in(stage) {
+        Held::Bubble => "bubble",
+        Held::Program => "program",
+        Held::WrongPath => "wrong path",
     }
 }
 
@@ -33,8 +54,8 @@ fn put_if(out: &mut String, applies: bool, remark: &str) -> Result<(), AllocErro
 }
 
 /// Writes that an instruction is on the wrong path.
-fn put_path(out: &mut String, kind: u64) -> Result<(), AllocError> {
-    put_if(out, kind == 2, ", on the wrong path")
+fn put_path(out: &mut String, held: Held) -> Result<(), AllocError> {
+    put_if(out, held == Held::WrongPath, ", on the wrong path")
 }
 
 /// Whether an instruction has a condition: a conditional move or a jump.
@@ -76,8 +97,8 @@ fn put_fetch(out: &mut String, f: &FetchLine) -> Result<(), AllocError> {
     put_if(out, f.stops != 0, ", its address is bad")
 }
 
-fn put_decode(out: &mut String, d: &DecodeLine) -> Result<(), AllocError> {
-    if d.kind == 0 {
+fn put_decode(out: &mut String, d: &DecodeLine, held: Held) -> Result<(), AllocError> {
+    if held == Held::Bubble {
         return out.push_str("bubble");
     }
     out.push_str(if d.stat == 3 {
@@ -90,11 +111,11 @@ fn put_decode(out: &mut String, d: &DecodeLine) -> Result<(), AllocError> {
     put_jump(out, d.icode, d.taken, d.back)?;
     put_status(out, d.stat)?;
     put_if(out, d.stops != 0, ", its address is bad")?;
-    put_path(out, d.kind)
+    put_path(out, held)
 }
 
-fn put_execute(out: &mut String, e: &ExecuteLine) -> Result<(), AllocError> {
-    if e.kind == 0 {
+fn put_execute(out: &mut String, e: &ExecuteLine, held: Held) -> Result<(), AllocError> {
+    if held == Held::Bubble {
         return out.push_str("bubble");
     }
     out.push_str(if e.stat == 3 {
@@ -110,11 +131,11 @@ fn put_execute(out: &mut String, e: &ExecuteLine) -> Result<(), AllocError> {
     put_if(out, e.icode == 7 && e.back != 0, ", goes backward")?;
     put_status(out, e.stat)?;
     put_if(out, e.stops != 0, ", its address is bad")?;
-    put_path(out, e.kind)
+    put_path(out, held)
 }
 
-fn put_memory(out: &mut String, m: &MemoryLine) -> Result<(), AllocError> {
-    if m.kind == 0 {
+fn put_memory(out: &mut String, m: &MemoryLine, held: Held) -> Result<(), AllocError> {
+    if held == Held::Bubble {
         return out.push_str("bubble");
     }
     out.push_str(mnemonic(m.icode, m.ifun))?;
@@ -124,31 +145,31 @@ fn put_memory(out: &mut String, m: &MemoryLine) -> Result<(), AllocError> {
     put_if(out, m.icode == 7 && m.back != 0, ", goes backward")?;
     put_status(out, m.stat)?;
     put_if(out, m.error != 0, ", its address is bad")?;
-    put_path(out, m.kind)
+    put_path(out, held)
 }
 
-fn put_write(out: &mut String, w: &WriteLine) -> Result<(), AllocError> {
-    if w.kind == 0 {
+fn put_write(out: &mut String, w: &WriteLine, held: Held) -> Result<(), AllocError> {
+    if held == Held::Bubble {
         return out.push_str("bubble");
     }
     out.push_str(instruction(w.icode))?;
     put_register(out, "writes", w.dst_e)?;
     put_register(out, "loads", w.dst_m)?;
     put_status(out, w.stat)?;
-    put_path(out, w.kind)
+    put_path(out, held)
 }
 
 /// Writes what the five stages hold, a line each.
-pub fn put_stages(out: &mut String, l: &Lines) -> Result<(), AllocError> {
+pub fn put_stages(out: &mut String, l: &Lines, y: &FlowNow) -> Result<(), AllocError> {
     out.push_str("    F  fetch       ")?;
     put_fetch(out, &l.f)?;
     out.push_str("\n    D  decode      ")?;
-    put_decode(out, &l.d)?;
+    put_decode(out, &l.d, held_in(&y.d))?;
     out.push_str("\n    E  execute     ")?;
-    put_execute(out, &l.e)?;
+    put_execute(out, &l.e, held_in(&y.e))?;
     out.push_str("\n    M  memory      ")?;
-    put_memory(out, &l.m)?;
+    put_memory(out, &l.m, held_in(&y.m))?;
     out.push_str("\n    W  write-back  ")?;
-    put_write(out, &l.w)?;
+    put_write(out, &l.w, held_in(&y.w))?;
     out.push_str("\n")
 }
