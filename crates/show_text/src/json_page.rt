@@ -2,7 +2,7 @@
 use crate::found::{Demanded, Kind, ShowMatches, group_of};
 use crate::instructions::Instruction;
 use crate::pages::{LANGUAGES, sentences};
-use crate::stages::{STAGES, field_name, put_layout, steps_of};
+use crate::stages::{STAGES, field_name, put_layout, stage_name, steps_of};
 use explanations::Staged;
 use fault_report::Tables;
 use finding_text::{Out, put_number, put_text, put_truth, value_name};
@@ -126,12 +126,12 @@ fn put_memory(out: &mut Out, it: &Instruction) -> Result<(), AllocError> {
 fn put_stages(alloc: Global, out: &mut Out, it: &Instruction) -> Result<(), AllocError> {
     out.key("stages")?;
     out.begin_array()?;
-    for number in 0..6_usize {
+    for stage in STAGES {
         out.begin_object()?;
-        put_text(out, "stage", STAGES.get(number).copied().unwrap_or(""))?;
+        put_text(out, "stage", stage_name(*stage))?;
         out.key("does")?;
         out.begin_array()?;
-        let steps = steps_of(alloc, it, number)?;
+        let steps = steps_of(alloc, it, *stage)?;
         for step in steps.as_slice() {
             out.string(step.as_str())?;
         }

@@ -1,7 +1,7 @@
 //! The answer of `show`, in sentences.
 use crate::found::{Demanded, Kind, ShowMatches};
 use crate::instructions::Instruction;
-use crate::stages::{STAGES, put_layout, steps_of};
+use crate::stages::{STAGES, Stage, put_layout, stage_name, steps_of};
 use explanations::Staged;
 use fault_report::sentences_of;
 use finding_text::{put_lines, put_paragraph};
@@ -54,14 +54,13 @@ fn put_stage(
     alloc: Global,
     out: &mut String,
     it: &Instruction,
-    number: usize,
+    stage: Stage,
 ) -> Result<(), AllocError> {
-    let steps = steps_of(alloc, it, number)?;
-    let stage = STAGES.get(number).copied().unwrap_or("");
+    let steps = steps_of(alloc, it, stage)?;
+    let mut name = stage_name(stage);
     if steps.as_slice().is_empty() {
-        return write!(out, "    {stage:<12}nothing\n");
+        return write!(out, "    {name:<12}nothing\n");
     }
-    let mut name = stage;
     for step in steps.as_slice() {
         let does = step.as_str();
         write!(out, "    {name:<12}{does}\n")?;
@@ -92,8 +91,8 @@ fn put_instruction(alloc: Global, out: &mut String, it: &Instruction) -> Result<
         out.push_str(" (the constant has 8 bytes, the lowest first)")?;
     }
     out.push_str("\n\n")?;
-    for number in 0..6_usize {
-        put_stage(alloc, out, it, number)?;
+    for stage in STAGES {
+        put_stage(alloc, out, it, *stage)?;
     }
     Ok(())
 }

@@ -3,15 +3,38 @@ use crate::instructions::Instruction;
 use std::alloc::{AllocError, Global};
 use y86_isa::{AluAColumn, AluBColumn, MemoryColumn, NextPcColumn, RegisterColumn, Row};
 
-/// The stages.
-pub static STAGES: [&str; 6] = [
-    "fetch",
-    "decode",
-    "execute",
-    "memory",
-    "write-back",
-    "PC update",
+/// A stage.
+#[derive(Clone, Copy, Debug)]
+pub enum Stage {
+    Fetch,
+    Decode,
+    Execute,
+    Memory,
+    WriteBack,
+    PcUpdate,
+}
+
+/// The stages in their order.
+pub static STAGES: &[Stage] = &[
+    Stage::Fetch,
+    Stage::Decode,
+    Stage::Execute,
+    Stage::Memory,
+    Stage::WriteBack,
+    Stage::PcUpdate,
 ];
+
+/// The name of a stage.
+pub fn stage_name(stage: Stage) -> &'static str {
+    match stage {
+        Stage::Fetch => "fetch",
+        Stage::Decode => "decode",
+        Stage::Execute => "execute",
+        Stage::Memory => "memory",
+        Stage::WriteBack => "write-back",
+        Stage::PcUpdate => "PC update",
+    }
+}
 
 /// The register that a column names.
 pub fn field_name(field: RegisterColumn) -> Option<&'static str> {
@@ -168,30 +191,30 @@ fn has_condition(instruction: &Instruction) -> bool {
     instruction.ifun != 0 && (row.conditional || row.next == NextPcColumn::Branch)
 }
 
-/// The steps of a stage for an instruction. Stages are numbered from 0.
+/// The steps of a stage for an instruction.
 pub fn steps_of(
     alloc: Global,
     instruction: &Instruction,
-    stage: usize,
+    stage: Stage,
 ) -> Result<Vec<String>, AllocError> {
     let row = &instruction.row;
     let has_condition = has_condition(instruction);
     let mut out: Vec<String> = Vec::new(alloc);
     match stage {
-        0 => fetch(alloc, &mut out, row)?,
-        1 => {
+        Stage::Fetch => fetch(alloc, &mut out, row)?,
+        Stage::Decode => {
             put_read(alloc, &mut out, "valA", row.src_a)?;
             put_read(alloc, &mut out, "valB", row.src_b)?;
         }
-        2 => execute(alloc, &mut out, row, has_condition)?,
-        3 => memory(alloc, &mut out, row)?,
-        4 => {
+        Stage::Execute => execute(alloc, &mut out, row, has_condition)?,
+        Stage::Memory => memory(alloc, &mut out, row)?,
+        Stage::WriteBack => {
             let is_move = has_condition && row.conditional;
             let before = if is_move { "if (Cnd) " } else { "" };
             put_write(alloc, &mut out, before, row.dst_e, "valE")?;
             put_write(alloc, &mut out, "", row.dst_m, "valM")?;
         }
-        _ => update_pc(alloc, &mut out, row, has_condition)?,
+        Stage::PcUpdate => update_pc(alloc, &mut out, row, has_condition)?,
     }
     Ok(out)
 }
