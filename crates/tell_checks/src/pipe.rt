@@ -1,5 +1,6 @@
 //! `check pipe`: the verdict on a design for PIPE, explained.
 ghost use Rattle.std.specs.Prelude.{◌≡◌, ◌↔◌, IfOk, true};
+ghost use Rattle.control_check.specs.PipeVerdicts.{RefinesPipe};
 ghost use Rattle.dp_signals.specs.PipeTable.{pipe_rows};
 ghost use Rattle.hcl_types.specs.Tables.{IsBoundDesign};
 ghost use Rattle.pipe_refusals.specs.Answered.{is_yes};
@@ -92,7 +93,8 @@ fn answer_text(
     }
 }
 
-/// Explains the verdict on a design for PIPE.
+/// Explains the verdict on a design for PIPE. The status is 0 only if its machine refines the run of instructions on
+/// every image whose instructions fetch no byte that one of the three before them stored.
 pub fn explain_pipe(
     alloc: Global,
     asked: CheckQuestion,
@@ -100,6 +102,7 @@ pub fn explain_pipe(
     file: &ExplainedFile<'_>,
 ) -> Result<Said, CheckFault>
     requires { IsBoundDesign pipe_rows bound.now }
+    ensures { IfOk result (λ said. said.status ≡ 0 → RefinesPipe asked.variant bound.now.ordered.design.terms) }
 {
     let answer = answer_pipe(alloc, asked.variant, bound)?;
     match answer_text(alloc, asked, file, &answer) {

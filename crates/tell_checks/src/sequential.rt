@@ -1,7 +1,7 @@
 //! `check seq` and `check seqplus`: the verdict on a design for SEQ or SEQ+, explained.
 ghost use Rattle.std.specs.Prelude.{◌≡◌, ◌↔◌, IfOk, true};
 ghost use Rattle.hcl_types.specs.Tables.{IsBoundDesign};
-ghost use Rattle.seq_refusals.specs.Answered.{is_yes};
+ghost use Rattle.seq_refusals.specs.Answered.{Refines, is_yes};
 ghost use Rattle.seq_plus.specs.Datapaths.{rows_of};
 ghost use Rattle.tell_checks.specs.Explained.{SeqAnswers};
 
@@ -92,7 +92,8 @@ fn answer_text(
     }
 }
 
-/// Explains the verdict on a design for SEQ or SEQ+.
+/// Explains the verdict on a design for SEQ or SEQ+. The status is 0 only if its machine runs as the instructions do, on
+/// every image.
 pub fn explain_sequential(
     alloc: Global,
     which: SequentialDatapath,
@@ -101,6 +102,7 @@ pub fn explain_sequential(
     file: &ExplainedFile<'_>,
 ) -> Result<Said, CheckFault>
     requires { IsBoundDesign (rows_of which) bound.now }
+    ensures { IfOk result (λ said. said.status ≡ 0 → Refines which asked.variant bound.now.ordered.design.terms) }
 {
     let answer = answer_sequential(alloc, which, asked.variant, bound)?;
     match answer_text(alloc, which, asked, file, &answer) {
