@@ -13,17 +13,21 @@ use Rattle.pipe_fields.specs.Allowed.{is_good_aok}
 use Rattle.net_fields.specs.FieldSpecs as table
 use Rattle.prog_gen.specs.Draws.{lcg_next, lcg_output}
 
--- ---- what a field of a line may be, by its place in the line and the row of the line's icode; later fields don't
--- count
+-- ---- what a field may be: for each line a list of tests, in the order of its fields (`fetch_fields` ..), by the row of
+-- the line's icode; a test reads no later field
 
-abbrev pub fetch_choice_allowed : ℕ → Row → FetchLine → ℕ → ℕ → Bool
-fetch_choice_allowed count r x i n =
-    if i == 0 then true
-    else (if i == 1 then (if set x.error then n == inop else icode_allowed count n)
-    else (if i == 2 then nat_le n r.ifun_top && (not (set x.error) || n == 0)
-    else (if i == 3 then cnd_allowed_where (next_is_branch r.next) x.ifun n
-    else (if i == 4 then zero_unless (accesses r.memory) n
-    else zero_unless (next_is_branch r.next) n))))
+abbrev pub kind_tests : List (ℕ → Bool)
+kind_tests = (λ n. nat_lt n 3) ∷ (λ n. nat_lt n 3) ∷ (λ n. nat_lt n 2) ∷ (λ n. nat_lt n 2) ∷ []
+
+abbrev pub fetch_tests : ℕ → Row → FetchLine → List (ℕ → Bool)
+fetch_tests count r x =
+    (λ n. true)
+    ∷ (λ n. if set x.error then n == inop else icode_allowed count n)
+    ∷ (λ n. nat_le n r.ifun_top && (not (set x.error) || n == 0))
+    ∷ (λ n. cnd_allowed_where (next_is_branch r.next) x.ifun n)
+    ∷ (λ n. zero_unless (accesses r.memory) n)
+    ∷ (λ n. zero_unless (next_is_branch r.next) n)
+    ∷ []
 
 -- status, icode and ifun of what a stage holds; `faulted` allows an icode that may have an error at memory
 abbrev pub stat_choice_allowed : ℕ → ℕ → Bool
@@ -35,59 +39,66 @@ icode_choice_allowed count kind faulted stat n = if kind == bubble then n == ino
 abbrev pub ifun_choice_allowed : Row → ℕ → ℕ → ℕ → Bool
 ifun_choice_allowed r kind stat n = if kind == bubble then n == 0 else nat_le n r.ifun_top && (not (stat == 3) || n == 0)
 
-abbrev pub decode_choice_allowed : ℕ → Row → DecodeLine → ℕ → ℕ → Bool
-decode_choice_allowed count r x i n =
-    if i == 0 then stat_choice_allowed x.kind n
-    else (if i == 1 then icode_choice_allowed count x.kind false x.stat n
-    else (if i == 2 then ifun_choice_allowed r x.kind x.stat n
-    else (if i == 3 then register_field_allowed r.has_byte r.uses_a n
-    else (if i == 4 then register_field_allowed r.has_byte r.uses_b n
-    else (if i == 5 then cnd_allowed_where (is_good_aok x.kind x.stat && next_is_branch r.next) x.ifun n
-    else (if i == 6 then zero_unless (is_good_aok x.kind x.stat && accesses r.memory) n
-    else zero_unless (is_good_aok x.kind x.stat && next_is_branch r.next) n))))))
+abbrev pub decode_tests : ℕ → Row → DecodeLine → List (ℕ → Bool)
+decode_tests count r x =
+    (λ n. stat_choice_allowed x.kind n)
+    ∷ (λ n. icode_choice_allowed count x.kind false x.stat n)
+    ∷ (λ n. ifun_choice_allowed r x.kind x.stat n)
+    ∷ (λ n. register_field_allowed r.has_byte r.uses_a n)
+    ∷ (λ n. register_field_allowed r.has_byte r.uses_b n)
+    ∷ (λ n. cnd_allowed_where (is_good_aok x.kind x.stat && next_is_branch r.next) x.ifun n)
+    ∷ (λ n. zero_unless (is_good_aok x.kind x.stat && accesses r.memory) n)
+    ∷ (λ n. zero_unless (is_good_aok x.kind x.stat && next_is_branch r.next) n)
+    ∷ []
 
-abbrev pub execute_choice_allowed : ℕ → Row → ExecuteLine → ℕ → ℕ → Bool
-execute_choice_allowed count r x i n =
-    if i == 0 then stat_choice_allowed x.kind n
-    else (if i == 1 then icode_choice_allowed count x.kind false x.stat n
-    else (if i == 2 then ifun_choice_allowed r x.kind x.stat n
-    else (if i == 3 then register_allowed r.dst_e n
-    else (if i == 4 then register_allowed r.dst_m n
-    else (if i == 5 then register_allowed r.src_a n
-    else (if i == 6 then register_allowed r.src_b n && shares_register r n x.dst_e
-    else (if i == 7 then cnd_allowed x.ifun n
-    else (if i == 8 then zero_unless (is_good_aok x.kind x.stat && accesses r.memory) n
-    else zero_unless (is_good_aok x.kind x.stat && next_is_branch r.next) n))))))))
+abbrev pub execute_tests : ℕ → Row → ExecuteLine → List (ℕ → Bool)
+execute_tests count r x =
+    (λ n. stat_choice_allowed x.kind n)
+    ∷ (λ n. icode_choice_allowed count x.kind false x.stat n)
+    ∷ (λ n. ifun_choice_allowed r x.kind x.stat n)
+    ∷ (λ n. register_allowed r.dst_e n)
+    ∷ (λ n. register_allowed r.dst_m n)
+    ∷ (λ n. register_allowed r.src_a n)
+    ∷ (λ n. register_allowed r.src_b n && shares_register r n x.dst_e)
+    ∷ (λ n. cnd_allowed x.ifun n)
+    ∷ (λ n. zero_unless (is_good_aok x.kind x.stat && accesses r.memory) n)
+    ∷ (λ n. zero_unless (is_good_aok x.kind x.stat && next_is_branch r.next) n)
+    ∷ []
 
 -- in M a conditional move may have lost its destination if its condition can fail; then the condition has failed
-abbrev pub memory_choice_allowed : ℕ → Row → MemoryLine → ℕ → ℕ → Bool
-memory_choice_allowed count r x i n =
-    if i == 0 then stat_choice_allowed x.kind n
-    else (if i == 1 then icode_choice_allowed count x.kind false x.stat n
-    else (if i == 2 then ifun_choice_allowed r x.kind x.stat n
-    else (if i == 3 then register_allowed r.dst_e n || (r.conditional && (n == no_register && not (x.ifun == 0)))
-    else (if i == 4 then register_allowed r.dst_m n
-    else (if i == 5 then (if x.kind == bubble then true else cnd_allowed x.ifun n && destination_allowed r n x.dst_e)
-    else (if i == 6 then zero_unless (is_good_aok x.kind x.stat && accesses r.memory) n
-    else zero_unless (is_good_aok x.kind x.stat && next_is_branch r.next) n))))))
+abbrev pub memory_tests : ℕ → Row → MemoryLine → List (ℕ → Bool)
+memory_tests count r x =
+    (λ n. stat_choice_allowed x.kind n)
+    ∷ (λ n. icode_choice_allowed count x.kind false x.stat n)
+    ∷ (λ n. ifun_choice_allowed r x.kind x.stat n)
+    ∷ (λ n. register_allowed r.dst_e n || (r.conditional && (n == no_register && not (x.ifun == 0))))
+    ∷ (λ n. register_allowed r.dst_m n)
+    ∷ (λ n. if x.kind == bubble then true else cnd_allowed x.ifun n && destination_allowed r n x.dst_e)
+    ∷ (λ n. zero_unless (is_good_aok x.kind x.stat && accesses r.memory) n)
+    ∷ (λ n. zero_unless (is_good_aok x.kind x.stat && next_is_branch r.next) n)
+    ∷ []
 
-abbrev pub write_choice_allowed : ℕ → Row → Bool → WriteLine → ℕ → ℕ → Bool
-write_choice_allowed count r faulted x i n =
-    if i == 0 then stat_choice_allowed x.kind n
-    else (if i == 1 then icode_choice_allowed count x.kind faulted x.stat n
-    else (if i == 2 then (r.conditional && n == no_register) || register_allowed r.dst_e n
-    else register_allowed r.dst_m n))
+abbrev pub write_tests : Variant → Row → WriteLine → List (ℕ → Bool)
+write_tests v r x =
+    (λ n. stat_choice_allowed x.kind n)
+    ∷ (λ n. icode_choice_allowed (length (rows v)) x.kind (accesses (row v n).memory) x.stat n)
+    ∷ (λ n. (r.conditional && n == no_register) || register_allowed r.dst_e n)
+    ∷ (λ n. register_allowed r.dst_m n)
+    ∷ []
+
+-- the test at a place of a list; behind the list no number passes
+abbrev pub test_at : List (ℕ → Bool) → ℕ → ℕ → Bool
+test_at tests i = get_or tests i (λ n. false)
 
 -- ---- by the place in the order of the variables: the kinds, then the lines F, D, E, M and W
 unfoldable pub choice_allowed : Variant → ℕ → Fields → ℕ → Bool
-choice_allowed v j c n =
-    if nat_lt j 2 then nat_lt n 3
-    else (if nat_lt j f_first then nat_lt n 2
-    else (if nat_lt j d_first then fetch_choice_allowed (length (rows v)) (row v c.f.icode) c.f (j - f_first) n
-    else (if nat_lt j e_first then decode_choice_allowed (length (rows v)) (row v c.d.icode) c.d (j - d_first) n
-    else (if nat_lt j m_first then execute_choice_allowed (length (rows v)) (row v c.e.icode) c.e (j - e_first) n
-    else (if nat_lt j w_first then memory_choice_allowed (length (rows v)) (row v c.m.icode) c.m (j - m_first) n
-    else write_choice_allowed (length (rows v)) (row v c.w.icode) (accesses (row v n).memory) c.w (j - w_first) n)))))
+choice_allowed v j c =
+    if nat_lt j f_first then test_at kind_tests j
+    else (if nat_lt j d_first then test_at (fetch_tests (length (rows v)) (row v c.f.icode) c.f) (j - f_first)
+    else (if nat_lt j e_first then test_at (decode_tests (length (rows v)) (row v c.d.icode) c.d) (j - d_first)
+    else (if nat_lt j m_first then test_at (execute_tests (length (rows v)) (row v c.e.icode) c.e) (j - e_first)
+    else (if nat_lt j w_first then test_at (memory_tests (length (rows v)) (row v c.m.icode) c.m) (j - m_first)
+    else test_at (write_tests v (row v c.w.icode) c.w) (j - w_first)))))
 
 -- the number of bits of the field at a place
 abbrev pub width : ℕ → ℕ

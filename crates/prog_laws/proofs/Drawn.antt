@@ -1,17 +1,18 @@
 -- Numbers each of which may follow those before it are those with which some allowed valuation begins.
-use Rattle.std.proofs.Common.{◌≡◌, ◌⊎◌, inl, inr, ℕ, zero, suc, ◌+◌, ◌-◌, ◌%◌, ◌^◌, ◌<◌, ◌≤◌, Bool, true, false, List, [], ◌∷◌, ◌++◌, length, get_or, take, None, refl, sym, ap, ◌∙◌, subst, arith}
+use Rattle.std.proofs.Common.{◌≡◌, ◌⊎◌, inl, inr, ℕ, zero, suc, ◌+◌, ◌-◌, ◌%◌, ◌^◌, ◌<◌, ◌≤◌, Bool, true, false, List, [], ◌∷◌, ◌++◌, length, map, get_or, take, None, refl, sym, ap, ◌∙◌, subst, arith}
 use Rattle.std.specs.List.{All, Contains, filter, range_with_len}
 use Rattle.std.proofs.lemmas.Bool.{cases_eq}
 use Rattle.std.proofs.lemmas.List.{ext_get_or, get_or-take, length-take, take-append-le, take_all, length-append, length_push}
 use Rattle.std.proofs.lemmas.List.Elements.{All-contains, All-filter, filter_passes, Contains-append_left, Contains-get_or, Contains-push}
-use Rattle.std.proofs.lemmas.List.FromFn.{get_or-range_with_len, length-range_with_len}
+use Rattle.std.proofs.lemmas.List.FromFn.{get_or-map-range_with_len, get_or-range_with_len, length-range_with_len}
 use Rattle.std.proofs.lemmas.Option.{unwrap_or-slice_get}
 use Rattle.std.proofs.Math.ListN.{get_or-append}
 use Rattle.std.proofs.Math.Seq.{get_or-append_seam}
 use Rattle.y86_base.specs.declared.parts.Variant.{Variant}
+use Rattle.dp_signals.specs.PipeNames as signal
 use Rattle.net_fields.specs.FieldSpecs as table
 use Rattle.net_fields.specs.declared.field_specs.FieldSpec.{FieldSpec}
-use Rattle.pipe_fields.specs.Layout.{Fields, InRange, fields_by, fields_of, numbers, field_specs, field_count, e_first}
+use Rattle.pipe_fields.specs.Layout.{Fields, InRange, fields_by, fields_of, numbers, field_specs, field_count}
 use Rattle.pipe_fields.specs.Allowed.{allowed}
 use Rattle.pipe_fields.proofs.Told.{has_pattern}
 use Rattle.prog_gen.specs.Choices.{AreChosen, choices, chosen, choice_allowed, numbers_drawn, truths_drawn, valuation, valuation_from, width, word_behind}
@@ -19,7 +20,7 @@ use Rattle.prog_gen.specs.Draws.{lcg_next, lcg_output}
 use Rattle.prog_laws.specs.AllowedPrefix.{PrefixGoesOn, IsAllowedPrefix}
 use Rattle.prog_laws.proofs.Behind.{allowed_chosen}
 use Rattle.prog_gen.proofs.Chosen.{passes_more, passes_same}
-use Rattle.net_fields.proofs.EachBelow.{EachFrom, ◌▹◌, no_more, each_below}
+use Rattle.prog_laws.proofs.Lines.{place}
 use Rattle.prog_laws.proofs.Lawful.{chosen_allowed}
 use Rattle.prog_laws.proofs.Witness.{Some_below, witness}
 
@@ -32,18 +33,9 @@ pub record IsFront (v : Variant) (xs : List ℕ) : Type 0 where
 -- ---- numbers as fields and back
 
 entries : (xs : List ℕ) (j : ℕ) → j < field_count → get_or (numbers (fields_by xs)) j 0 ≡ get_or xs j 0
-entries xs = each_below Same field_count each
-  where
-    Same : ℕ → Type 0
-    Same j = get_or (numbers (fields_by xs)) j 0 ≡ get_or xs j 0
-
-    each : EachFrom Same 0 field_count
-    each =
-        refl ▹ refl ▹ refl ▹ refl ▹ refl ▹ refl ▹ refl ▹ refl ▹ refl ▹ refl ▹
-        refl ▹ refl ▹ refl ▹ refl ▹ refl ▹ refl ▹ refl ▹ refl ▹ refl ▹ refl ▹
-        refl ▹ refl ▹ refl ▹ refl ▹ refl ▹ refl ▹ refl ▹ refl ▹ refl ▹ refl ▹
-        refl ▹ refl ▹ refl ▹ refl ▹ refl ▹ refl ▹ refl ▹ refl ▹ refl ▹ refl ▹
-        no_more
+entries xs j h =
+    let in_order : numbers (fields_by xs) ≡ map (λ k. get_or xs k 0) (range_with_len 0 field_count) = refl in
+    ap (λ (ys : List ℕ). get_or ys j 0) in_order ∙ get_or-map-range_with_len (λ k. get_or xs k 0) 0 field_count j j 0 h (omega arith)
 
 count : (c : Fields) → length (numbers c) ≡ field_count
 count c = refl
@@ -167,7 +159,7 @@ whole_lawful v xs f size =
     record {
       numbers_are = e;
       range = subst (table.InRange field_specs) (sym e) (ranges field_specs xs (record { bits = 0; name = None }) (sym size) (λ j h. f.small j (omega (arith, h, size))));
-      lawful = chosen_allowed v (fields_by xs) (f.small (e_first + 7) (omega (arith, size))) (subst (AreChosen v) (sym e) f.chosen);
+      lawful = chosen_allowed v (fields_by xs) (f.small (place signal.e_Cnd) (omega (arith, size))) (subst (AreChosen v) (sym e) f.chosen);
     }
 
 pub front_begun : (v : Variant) (xs : List ℕ) → IsFront v xs → IsAllowedPrefix v xs

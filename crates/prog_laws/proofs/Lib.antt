@@ -5,6 +5,8 @@ pub mod Standing
 pub mod Walking
 pub mod Images
 pub mod Whole
+pub mod Conjunctions
+pub mod Lines
 pub mod Behind
 pub mod Drawn
 pub mod Lawful

@@ -1,9 +1,9 @@
 -- After numbers each of which may follow those before it there is one that may follow, at each place.
 use Rattle.std.proofs.Common.{◌≡◌, ℕ, zero, suc, ◌+◌, ◌<◌, ◌^◌, Bool, true, false, not, ◌&&◌, ◌||◌, ◌==◌, nat_lt, nat_le, if◌then◌else◌, List, [], ◌∷◌, length, get_or, take, slice_get, unwrap_or, refl, ap, subst, arith}
 use Rattle.std.proofs.lemmas.Bool.Decides.{nat_tests}
-use Rattle.std.proofs.lemmas.Bool.{or_left, or_right, and_from, not-true}
+use Rattle.std.proofs.lemmas.Bool.{or_left, or_right, and_from}
 use Rattle.std.proofs.Math.Bool.{and-false, or-true}
-use Rattle.y86_base.proofs.Numbers.{eqb_self}
+use Rattle.dp_signals.specs.PipeNames as signal
 use Rattle.y86_base.specs.declared.parts.Variant.{Variant}
 use Rattle.y86_base.specs.declared.parts.Variant.TheVariants.{Base, Full}
 use Rattle.y86_isa.specs.declared.columns.Row.{Row}
@@ -14,9 +14,10 @@ use Rattle.y86_isa.specs.Table.{rows, row, dash_row, inop, no_register}
 use Rattle.net_fields.specs.AllowedNumbers.{register_field_allowed, register_allowed, cnd_allowed_where, zero_unless, cnd_allowed, icode_allowed, stat_allowed, destination_allowed}
 use Rattle.y86_base.specs.Words.{set}
 use Rattle.y86_base.proofs.Booleans.{and_second, and_first}
-use Rattle.pipe_fields.specs.Layout.{Fields, fields_by, numbers, bubble, field_count, f_first, d_first, e_first, m_first, w_first}
+use Rattle.pipe_fields.specs.Layout.{Fields, fields_by, numbers, bubble, field_count}
 use Rattle.pipe_fields.specs.Allowed.{is_good_aok}
 use Rattle.prog_gen.specs.Choices.{choice_allowed, stat_choice_allowed, icode_choice_allowed, ifun_choice_allowed, width}
+use Rattle.prog_laws.proofs.Lines.{place}
 use Rattle.prog_laws.proofs.Lawful.{else_true, choose_then, choose_else}
 use Rattle.net_fields.proofs.EachBelow.{EachFrom, ◌▹◌, no_more, each_below}
 
@@ -122,10 +123,13 @@ source_some Stack dst dst_e h = record { n = 4; small = omega arith; may_be = re
 source_some FieldB Dash dst_e h = record { n = 0; small = omega arith; may_be = refl }
 source_some FieldB FieldA dst_e h = record { n = 0; small = omega arith; may_be = refl }
 source_some FieldB Stack dst_e h = record { n = 0; small = omega arith; may_be = refl }
-source_some FieldB FieldB dst_e h = record { n = dst_e; small = below dst_e h; may_be = and_from _ _ h (eqb_self dst_e) }
+source_some FieldB FieldB dst_e h = record { n = dst_e; small = below dst_e h; may_be = and_from _ _ h (same dst_e) }
   where
     below : (n : ℕ) → nat_lt n no_register ≡ true → n < 16
     below n h = grind (arith, nat_tests)
+
+    same : (n : ℕ) → (n == n) ≡ true
+    same n = grind (arith, nat_tests)
 
 -- ---- M_Cnd after the destination
 
@@ -197,13 +201,17 @@ memory_cnd_some r kind ifun dst_e known top fits = by (kind == bubble) refl
         record {
           n = 0;
           small = omega arith;
-          may_be = choose_else _ _ _ e (and_from _ _ (no_fits (not-true (ifun == 0) (and_second (dst_e == no_register) (not (ifun == 0)) rest)))
+          may_be = choose_else _ _ _ e (and_from _ _ (no_fits (negated (ifun == 0) (and_second (dst_e == no_register) (not (ifun == 0)) rest)))
               (choose_then (r.conditional && not (set 0)) (dst_e == no_register) (register_allowed r.dst_e dst_e) (lost_then r.conditional (and_first r.conditional (dst_e == no_register && not (ifun == 0)) f))
               (and_first (dst_e == no_register) (not (ifun == 0)) rest)));
         }
       where
         lost_then : (b : Bool) → b ≡ true → (b && not (set 0)) ≡ true
         lost_then b h = ap (λ x. x && not (set 0)) h
+
+        negated : (b : Bool) → not b ≡ true → b ≡ false
+        negated true h = cc
+        negated false h = refl
 
     by : (b : Bool) → (kind == bubble) ≡ b → Some_below 2 (λ n. if kind == bubble then true else cnd_allowed ifun n && destination_allowed r n dst_e)
     by true e = record { n = 0; small = omega arith; may_be = choose_then _ _ _ e refl }
@@ -212,6 +220,17 @@ memory_cnd_some r kind ifun dst_e known top fits = by (kind == bubble) refl
         of : (b : Bool) → register_allowed r.dst_e dst_e ≡ b → Some_below 2 (λ n. if kind == bubble then true else cnd_allowed ifun n && destination_allowed r n dst_e)
         of true f = with_register e f (nat_lt ifun 7) refl
         of false f = lost e (subst (λ b. (b || (r.conditional && (dst_e == no_register && not (ifun == 0)))) ≡ true) f fits)
+
+-- ---- by 0, and by one of two tests
+
+zero_some : {bound : ℕ} {may : ℕ → Bool} → 0 < bound → may 0 ≡ true → Some_below bound may
+zero_some small h = record { n = 0; small = small; may_be = h }
+
+left_some : {bound : ℕ} {p : ℕ → Bool} (q : ℕ → Bool) → Some_below bound p → Some_below bound (λ n. p n || q n)
+left_some q s = record { n = s.n; small = s.small; may_be = or_left _ _ s.may_be }
+
+right_some : {bound : ℕ} {q : ℕ → Bool} (p : ℕ → Bool) → Some_below bound q → Some_below bound (λ n. p n || q n)
+right_some p s = record { n = s.n; small = s.small; may_be = or_right _ _ s.may_be }
 
 -- ---- at each place, after those that are known
 
@@ -222,211 +241,52 @@ AreBefore v c j = (k : ℕ) → k < j → choice_allowed v k (fields_by (take k 
 abbrev pub IsWitnessed : Variant → Fields → ℕ → Type 0
 IsWitnessed v c j = AreBefore v c j → Some_below (2 ^ width j) (choice_allowed v j (fields_by (take j (numbers c))))
 
-witnessed_d_kind : (v : Variant) (c : Fields) → IsWitnessed v c 0
-unfolding choice_allowed
-witnessed_d_kind v c h = record { n = 0; small = omega arith; may_be = refl }
-
-witnessed_e_kind : (v : Variant) (c : Fields) → IsWitnessed v c 1
-unfolding choice_allowed
-witnessed_e_kind v c h = record { n = 0; small = omega arith; may_be = refl }
-
-witnessed_m_kind : (v : Variant) (c : Fields) → IsWitnessed v c 2
-unfolding choice_allowed
-witnessed_m_kind v c h = record { n = 0; small = omega arith; may_be = refl }
-
-witnessed_w_kind : (v : Variant) (c : Fields) → IsWitnessed v c 3
-unfolding choice_allowed
-witnessed_w_kind v c h = record { n = 0; small = omega arith; may_be = refl }
-
-witnessed_f_error : (v : Variant) (c : Fields) → IsWitnessed v c f_first
-unfolding choice_allowed
-witnessed_f_error v c h = record { n = 0; small = omega arith; may_be = refl }
-
-witnessed_f_icode : (v : Variant) (c : Fields) → IsWitnessed v c (f_first + 1)
-unfolding choice_allowed
-witnessed_f_icode v c h = (let x = fetched_some v c.f.error in record { n = x.n; small = x.small; may_be = x.may_be })
-
-witnessed_f_ifun : (v : Variant) (c : Fields) → IsWitnessed v c (f_first + 2)
-unfolding choice_allowed
-witnessed_f_ifun v c h = (let x = fetched_ifun_some (row v c.f.icode) c.f.error in record { n = x.n; small = x.small; may_be = x.may_be })
-
-witnessed_f_taken : (v : Variant) (c : Fields) → IsWitnessed v c (f_first + 3)
-unfolding choice_allowed
-witnessed_f_taken v c h = (let x = where_some (next_is_branch (row v c.f.icode).next) c.f.ifun in record { n = x.n; small = x.small; may_be = x.may_be })
-
-witnessed_f_stops : (v : Variant) (c : Fields) → IsWitnessed v c (f_first + 4)
-unfolding choice_allowed
-witnessed_f_stops v c h = (let x = only_some (accesses (row v c.f.icode).memory) in record { n = x.n; small = x.small; may_be = x.may_be })
-
-witnessed_f_back : (v : Variant) (c : Fields) → IsWitnessed v c (f_first + 5)
-unfolding choice_allowed
-witnessed_f_back v c h = (let x = only_some (next_is_branch (row v c.f.icode).next) in record { n = x.n; small = x.small; may_be = x.may_be })
-
-witnessed_d_stat : (v : Variant) (c : Fields) → IsWitnessed v c d_first
-unfolding choice_allowed
-witnessed_d_stat v c h = (let x = stat_some c.d.kind in record { n = x.n; small = x.small; may_be = x.may_be })
-
-witnessed_d_icode : (v : Variant) (c : Fields) → IsWitnessed v c (d_first + 1)
-unfolding choice_allowed
-witnessed_d_icode v c h = (let x = icode_some v c.d.kind (λ n. false) c.d.stat (h 10 (omega arith)) in record { n = x.n; small = x.small; may_be = x.may_be })
-
-witnessed_d_ifun : (v : Variant) (c : Fields) → IsWitnessed v c (d_first + 2)
-unfolding choice_allowed
-witnessed_d_ifun v c h = (let x = ifun_some (row v c.d.icode) c.d.kind c.d.stat in record { n = x.n; small = x.small; may_be = x.may_be })
-
-witnessed_d_rA : (v : Variant) (c : Fields) → IsWitnessed v c (d_first + 3)
-unfolding choice_allowed
-witnessed_d_rA v c h = (let x = half_some (row v c.d.icode).has_byte (row v c.d.icode).uses_a in record { n = x.n; small = x.small; may_be = x.may_be })
-
-witnessed_d_rB : (v : Variant) (c : Fields) → IsWitnessed v c (d_first + 4)
-unfolding choice_allowed
-witnessed_d_rB v c h = (let x = half_some (row v c.d.icode).has_byte (row v c.d.icode).uses_b in record { n = x.n; small = x.small; may_be = x.may_be })
-
-witnessed_d_taken : (v : Variant) (c : Fields) → IsWitnessed v c (d_first + 5)
-unfolding choice_allowed
-witnessed_d_taken v c h = (let x = where_some (is_good_aok c.d.kind c.d.stat && next_is_branch (row v c.d.icode).next) c.d.ifun in record { n = x.n; small = x.small; may_be = x.may_be })
-
-witnessed_d_stops : (v : Variant) (c : Fields) → IsWitnessed v c (d_first + 6)
-unfolding choice_allowed
-witnessed_d_stops v c h = (let x = only_some (is_good_aok c.d.kind c.d.stat && accesses (row v c.d.icode).memory) in record { n = x.n; small = x.small; may_be = x.may_be })
-
-witnessed_d_back : (v : Variant) (c : Fields) → IsWitnessed v c (d_first + 7)
-unfolding choice_allowed
-witnessed_d_back v c h = (let x = only_some (is_good_aok c.d.kind c.d.stat && next_is_branch (row v c.d.icode).next) in record { n = x.n; small = x.small; may_be = x.may_be })
-
-witnessed_e_stat : (v : Variant) (c : Fields) → IsWitnessed v c e_first
-unfolding choice_allowed
-witnessed_e_stat v c h = (let x = stat_some c.e.kind in record { n = x.n; small = x.small; may_be = x.may_be })
-
-witnessed_e_icode : (v : Variant) (c : Fields) → IsWitnessed v c (e_first + 1)
-unfolding choice_allowed
-witnessed_e_icode v c h = (let x = icode_some v c.e.kind (λ n. false) c.e.stat (h 18 (omega arith)) in record { n = x.n; small = x.small; may_be = x.may_be })
-
-witnessed_e_ifun : (v : Variant) (c : Fields) → IsWitnessed v c (e_first + 2)
-unfolding choice_allowed
-witnessed_e_ifun v c h = (let x = ifun_some (row v c.e.icode) c.e.kind c.e.stat in record { n = x.n; small = x.small; may_be = x.may_be })
-
-witnessed_e_dstE : (v : Variant) (c : Fields) → IsWitnessed v c (e_first + 3)
-unfolding choice_allowed
-witnessed_e_dstE v c h = (let x = register_some (row v c.e.icode).dst_e in record { n = x.n; small = x.small; may_be = x.may_be })
-
-witnessed_e_dstM : (v : Variant) (c : Fields) → IsWitnessed v c (e_first + 4)
-unfolding choice_allowed
-witnessed_e_dstM v c h = (let x = register_some (row v c.e.icode).dst_m in record { n = x.n; small = x.small; may_be = x.may_be })
-
-witnessed_e_srcA : (v : Variant) (c : Fields) → IsWitnessed v c (e_first + 5)
-unfolding choice_allowed
-witnessed_e_srcA v c h = (let x = register_some (row v c.e.icode).src_a in record { n = x.n; small = x.small; may_be = x.may_be })
-
-witnessed_e_srcB : (v : Variant) (c : Fields) → IsWitnessed v c (e_first + 6)
-unfolding choice_allowed
-witnessed_e_srcB v c h = (let x = source_some (row v c.e.icode).src_b (row v c.e.icode).dst_e c.e.dst_e (h 21 (omega arith)) in record { n = x.n; small = x.small; may_be = x.may_be })
-
-witnessed_e_cnd : (v : Variant) (c : Fields) → IsWitnessed v c (e_first + 7)
-unfolding choice_allowed
-witnessed_e_cnd v c h = (let x = cnd_some c.e.ifun in record { n = x.n; small = x.small; may_be = x.may_be })
-
-witnessed_e_stops : (v : Variant) (c : Fields) → IsWitnessed v c (e_first + 8)
-unfolding choice_allowed
-witnessed_e_stops v c h = (let x = only_some (is_good_aok c.e.kind c.e.stat && accesses (row v c.e.icode).memory) in record { n = x.n; small = x.small; may_be = x.may_be })
-
-witnessed_e_back : (v : Variant) (c : Fields) → IsWitnessed v c (e_first + 9)
-unfolding choice_allowed
-witnessed_e_back v c h = (let x = only_some (is_good_aok c.e.kind c.e.stat && next_is_branch (row v c.e.icode).next) in record { n = x.n; small = x.small; may_be = x.may_be })
-
-witnessed_m_stat : (v : Variant) (c : Fields) → IsWitnessed v c m_first
-unfolding choice_allowed
-witnessed_m_stat v c h = (let x = stat_some c.m.kind in record { n = x.n; small = x.small; may_be = x.may_be })
-
-witnessed_m_icode : (v : Variant) (c : Fields) → IsWitnessed v c (m_first + 1)
-unfolding choice_allowed
-witnessed_m_icode v c h = (let x = icode_some v c.m.kind (λ n. false) c.m.stat (h 28 (omega arith)) in record { n = x.n; small = x.small; may_be = x.may_be })
-
-witnessed_m_ifun : (v : Variant) (c : Fields) → IsWitnessed v c (m_first + 2)
-unfolding choice_allowed
-witnessed_m_ifun v c h = (let x = ifun_some (row v c.m.icode) c.m.kind c.m.stat in record { n = x.n; small = x.small; may_be = x.may_be })
-
-witnessed_m_dstE : (v : Variant) (c : Fields) → IsWitnessed v c (m_first + 3)
-unfolding choice_allowed
-witnessed_m_dstE v c h = (let x = register_some (row v c.m.icode).dst_e in record { n = x.n; small = x.small; may_be = or_left _ _ x.may_be })
-
-witnessed_m_dstM : (v : Variant) (c : Fields) → IsWitnessed v c (m_first + 4)
-unfolding choice_allowed
-witnessed_m_dstM v c h = (let x = register_some (row v c.m.icode).dst_m in record { n = x.n; small = x.small; may_be = x.may_be })
-
-witnessed_m_cnd : (v : Variant) (c : Fields) → IsWitnessed v c (m_first + 5)
-unfolding choice_allowed
-witnessed_m_cnd v c h = (let x = memory_cnd_some (row v c.m.icode) c.m.kind c.m.ifun c.m.dst_e (row_small v c.m.icode) (λ e. and_first _ _ (else_true _ _ _ e (h 30 (omega arith)))) (h 31 (omega arith)) in record { n = x.n; small = x.small; may_be = x.may_be })
-
-witnessed_m_error : (v : Variant) (c : Fields) → IsWitnessed v c (m_first + 6)
-unfolding choice_allowed
-witnessed_m_error v c h = (let x = only_some (is_good_aok c.m.kind c.m.stat && accesses (row v c.m.icode).memory) in record { n = x.n; small = x.small; may_be = x.may_be })
-
-witnessed_m_back : (v : Variant) (c : Fields) → IsWitnessed v c (m_first + 7)
-unfolding choice_allowed
-witnessed_m_back v c h = (let x = only_some (is_good_aok c.m.kind c.m.stat && next_is_branch (row v c.m.icode).next) in record { n = x.n; small = x.small; may_be = x.may_be })
-
-witnessed_w_stat : (v : Variant) (c : Fields) → IsWitnessed v c w_first
-unfolding choice_allowed
-witnessed_w_stat v c h = (let x = stat_some c.w.kind in record { n = x.n; small = x.small; may_be = x.may_be })
-
-witnessed_w_icode : (v : Variant) (c : Fields) → IsWitnessed v c (w_first + 1)
-unfolding choice_allowed
-witnessed_w_icode v c h = (let x = icode_some v c.w.kind (λ n. accesses (row v n).memory) c.w.stat (h 36 (omega arith)) in record { n = x.n; small = x.small; may_be = x.may_be })
-
-witnessed_w_dstE : (v : Variant) (c : Fields) → IsWitnessed v c (w_first + 2)
-unfolding choice_allowed
-witnessed_w_dstE v c h = (let x = register_some (row v c.w.icode).dst_e in record { n = x.n; small = x.small; may_be = or_right _ _ x.may_be })
-
-witnessed_w_dstM : (v : Variant) (c : Fields) → IsWitnessed v c (w_first + 3)
-unfolding choice_allowed
-witnessed_w_dstM v c h = (let x = register_some (row v c.w.icode).dst_m in record { n = x.n; small = x.small; may_be = x.may_be })
-
 -- another one may follow
-pub witness : (v : Variant) (c : Fields) (j : ℕ) → j < field_count → AreBefore v c j → Some_below (2 ^ width j) (choice_allowed v j (fields_by (take j (numbers c))))
-witness v c j lt h =
-    each_below (IsWitnessed v c) field_count each j lt h
+pub witness : (v : Variant) (c : Fields) (j : ℕ) → j < field_count → IsWitnessed v c j
+unfolding choice_allowed
+witness v c j lt =
+    each_below (IsWitnessed v c) field_count each j lt
   where
     each : EachFrom (IsWitnessed v c) 0 field_count
     each =
-        witnessed_d_kind v c ▹
-        witnessed_e_kind v c ▹
-        witnessed_m_kind v c ▹
-        witnessed_w_kind v c ▹
-        witnessed_f_error v c ▹
-        witnessed_f_icode v c ▹
-        witnessed_f_ifun v c ▹
-        witnessed_f_taken v c ▹
-        witnessed_f_stops v c ▹
-        witnessed_f_back v c ▹
-        witnessed_d_stat v c ▹
-        witnessed_d_icode v c ▹
-        witnessed_d_ifun v c ▹
-        witnessed_d_rA v c ▹
-        witnessed_d_rB v c ▹
-        witnessed_d_taken v c ▹
-        witnessed_d_stops v c ▹
-        witnessed_d_back v c ▹
-        witnessed_e_stat v c ▹
-        witnessed_e_icode v c ▹
-        witnessed_e_ifun v c ▹
-        witnessed_e_dstE v c ▹
-        witnessed_e_dstM v c ▹
-        witnessed_e_srcA v c ▹
-        witnessed_e_srcB v c ▹
-        witnessed_e_cnd v c ▹
-        witnessed_e_stops v c ▹
-        witnessed_e_back v c ▹
-        witnessed_m_stat v c ▹
-        witnessed_m_icode v c ▹
-        witnessed_m_ifun v c ▹
-        witnessed_m_dstE v c ▹
-        witnessed_m_dstM v c ▹
-        witnessed_m_cnd v c ▹
-        witnessed_m_error v c ▹
-        witnessed_m_back v c ▹
-        witnessed_w_stat v c ▹
-        witnessed_w_icode v c ▹
-        witnessed_w_dstE v c ▹
-        witnessed_w_dstM v c ▹
+        (λ h. zero_some (omega arith) refl) ▹
+        (λ h. zero_some (omega arith) refl) ▹
+        (λ h. zero_some (omega arith) refl) ▹
+        (λ h. zero_some (omega arith) refl) ▹
+        (λ h. zero_some (omega arith) refl) ▹
+        (λ h. fetched_some v c.f.error) ▹
+        (λ h. fetched_ifun_some (row v c.f.icode) c.f.error) ▹
+        (λ h. where_some (next_is_branch (row v c.f.icode).next) c.f.ifun) ▹
+        (λ h. only_some (accesses (row v c.f.icode).memory)) ▹
+        (λ h. only_some (next_is_branch (row v c.f.icode).next)) ▹
+        (λ h. stat_some c.d.kind) ▹
+        (λ h. icode_some v c.d.kind (λ n. false) c.d.stat (h (place signal.D_stat) (omega arith))) ▹
+        (λ h. ifun_some (row v c.d.icode) c.d.kind c.d.stat) ▹
+        (λ h. half_some (row v c.d.icode).has_byte (row v c.d.icode).uses_a) ▹
+        (λ h. half_some (row v c.d.icode).has_byte (row v c.d.icode).uses_b) ▹
+        (λ h. where_some (is_good_aok c.d.kind c.d.stat && next_is_branch (row v c.d.icode).next) c.d.ifun) ▹
+        (λ h. only_some (is_good_aok c.d.kind c.d.stat && accesses (row v c.d.icode).memory)) ▹
+        (λ h. only_some (is_good_aok c.d.kind c.d.stat && next_is_branch (row v c.d.icode).next)) ▹
+        (λ h. stat_some c.e.kind) ▹
+        (λ h. icode_some v c.e.kind (λ n. false) c.e.stat (h (place signal.E_stat) (omega arith))) ▹
+        (λ h. ifun_some (row v c.e.icode) c.e.kind c.e.stat) ▹
+        (λ h. register_some (row v c.e.icode).dst_e) ▹
+        (λ h. register_some (row v c.e.icode).dst_m) ▹
+        (λ h. register_some (row v c.e.icode).src_a) ▹
+        (λ h. source_some (row v c.e.icode).src_b (row v c.e.icode).dst_e c.e.dst_e (h (place signal.E_dstE) (omega arith))) ▹
+        (λ h. cnd_some c.e.ifun) ▹
+        (λ h. only_some (is_good_aok c.e.kind c.e.stat && accesses (row v c.e.icode).memory)) ▹
+        (λ h. only_some (is_good_aok c.e.kind c.e.stat && next_is_branch (row v c.e.icode).next)) ▹
+        (λ h. stat_some c.m.kind) ▹
+        (λ h. icode_some v c.m.kind (λ n. false) c.m.stat (h (place signal.M_stat) (omega arith))) ▹
+        (λ h. ifun_some (row v c.m.icode) c.m.kind c.m.stat) ▹
+        (λ h. left_some _ (register_some (row v c.m.icode).dst_e)) ▹
+        (λ h. register_some (row v c.m.icode).dst_m) ▹
+        (λ h. memory_cnd_some (row v c.m.icode) c.m.kind c.m.ifun c.m.dst_e (row_small v c.m.icode) (λ e. and_first _ _ (else_true _ _ _ e (h (place signal.M_ifun) (omega arith)))) (h (place signal.M_dstE) (omega arith))) ▹
+        (λ h. only_some (is_good_aok c.m.kind c.m.stat && accesses (row v c.m.icode).memory)) ▹
+        (λ h. only_some (is_good_aok c.m.kind c.m.stat && next_is_branch (row v c.m.icode).next)) ▹
+        (λ h. stat_some c.w.kind) ▹
+        (λ h. icode_some v c.w.kind (λ n. accesses (row v n).memory) c.w.stat (h (place signal.W_stat) (omega arith))) ▹
+        (λ h. right_some _ (register_some (row v c.w.icode).dst_e)) ▹
+        (λ h. register_some (row v c.w.icode).dst_m) ▹
         no_more
