@@ -1,6 +1,6 @@
 -- Each number of an allowed valuation may follow those before it.
 use Rattle.std.proofs.Common.{◌≡◌, ℕ, ◌+◌, Bool, true, false, not, ◌&&◌, ◌||◌, ◌==◌, nat_lt, nat_le, if◌then◌else◌, List, [], ◌∷◌, length, refl, sym, ap, subst, arith}
-use Rattle.std.proofs.lemmas.Bool.{eqb-true, or_left, or_right, and_from}
+use Rattle.std.proofs.lemmas.Bool.{eqb-true, or_left, or_right, and_from, not-true}
 use Rattle.std.proofs.lemmas.Bool.Decides.{nat_tests}
 use Rattle.y86_base.specs.declared.parts.Variant.{Variant}
 use Rattle.y86_base.specs.Words.{set}
@@ -171,15 +171,11 @@ lost_or_kept r ifun cnd d h c = by (r.conditional && not (set cnd)) refl
     nonzero true e off = clash (set cnd) (then_true _ _ _ e c) off
     nonzero false e off = refl
 
-    negated : (b : Bool) → not b ≡ true → b ≡ false
-    negated true h = cc
-    negated false h = refl
-
     by : (b : Bool) → (r.conditional && not (set cnd)) ≡ b → (register_allowed r.dst_e d || (r.conditional && (d == no_register && not (ifun == 0)))) ≡ true
     by true e =
         or_right (register_allowed r.dst_e d) (r.conditional && (d == no_register && not (ifun == 0)))
         (and_from r.conditional (d == no_register && not (ifun == 0)) (and_first r.conditional (not (set cnd)) e)
-        (and_from (d == no_register) (not (ifun == 0)) (then_true _ _ _ e h) (nonzero (ifun == 0) refl (negated (set cnd) (and_second r.conditional (not (set cnd)) e)))))
+        (and_from (d == no_register) (not (ifun == 0)) (then_true _ _ _ e h) (nonzero (ifun == 0) refl (not-true (set cnd) (and_second r.conditional (not (set cnd)) e)))))
     by false e = or_left (register_allowed r.dst_e d) (r.conditional && (d == no_register && not (ifun == 0))) (else_true _ _ _ e h)
 
 memory_instr : (v : Variant) (x : MemoryLine) → (x.kind == bubble) ≡ false → (nat_lt x.kind 2 && memory_row_allowed (length (rows v)) x.icode (row v x.icode) x) ≡ true → MemoryMay v x

@@ -1,7 +1,8 @@
 -- After numbers each of which may follow those before it there is one that may follow, at each place.
 use Rattle.std.proofs.Common.{◌≡◌, ℕ, zero, suc, ◌+◌, ◌<◌, ◌^◌, Bool, true, false, not, ◌&&◌, ◌||◌, ◌==◌, nat_lt, nat_le, if◌then◌else◌, List, [], ◌∷◌, length, get_or, take, slice_get, unwrap_or, refl, ap, subst, arith}
 use Rattle.std.proofs.lemmas.Bool.Decides.{nat_tests}
-use Rattle.std.proofs.lemmas.Bool.{or_left, or_right, and_from}
+use Rattle.std.proofs.lemmas.Bool.{or_left, or_right, and_from, not-true}
+use Rattle.y86_base.proofs.Numbers.{eqb_self}
 use Rattle.std.proofs.Math.Bool.{and-false, or-true}
 use Rattle.dp_signals.specs.PipeNames as signal
 use Rattle.y86_base.specs.declared.parts.Variant.{Variant}
@@ -123,13 +124,10 @@ source_some Stack dst dst_e h = record { n = 4; small = omega arith; may_be = re
 source_some FieldB Dash dst_e h = record { n = 0; small = omega arith; may_be = refl }
 source_some FieldB FieldA dst_e h = record { n = 0; small = omega arith; may_be = refl }
 source_some FieldB Stack dst_e h = record { n = 0; small = omega arith; may_be = refl }
-source_some FieldB FieldB dst_e h = record { n = dst_e; small = below dst_e h; may_be = and_from _ _ h (same dst_e) }
+source_some FieldB FieldB dst_e h = record { n = dst_e; small = below dst_e h; may_be = and_from _ _ h (eqb_self dst_e) }
   where
     below : (n : ℕ) → nat_lt n no_register ≡ true → n < 16
     below n h = grind (arith, nat_tests)
-
-    same : (n : ℕ) → (n == n) ≡ true
-    same n = grind (arith, nat_tests)
 
 -- ---- M_Cnd after the destination
 
@@ -201,17 +199,13 @@ memory_cnd_some r kind ifun dst_e known top fits = by (kind == bubble) refl
         record {
           n = 0;
           small = omega arith;
-          may_be = choose_else _ _ _ e (and_from _ _ (no_fits (negated (ifun == 0) (and_second (dst_e == no_register) (not (ifun == 0)) rest)))
+          may_be = choose_else _ _ _ e (and_from _ _ (no_fits (not-true (ifun == 0) (and_second (dst_e == no_register) (not (ifun == 0)) rest)))
               (choose_then (r.conditional && not (set 0)) (dst_e == no_register) (register_allowed r.dst_e dst_e) (lost_then r.conditional (and_first r.conditional (dst_e == no_register && not (ifun == 0)) f))
               (and_first (dst_e == no_register) (not (ifun == 0)) rest)));
         }
       where
         lost_then : (b : Bool) → b ≡ true → (b && not (set 0)) ≡ true
         lost_then b h = ap (λ x. x && not (set 0)) h
-
-        negated : (b : Bool) → not b ≡ true → b ≡ false
-        negated true h = cc
-        negated false h = refl
 
     by : (b : Bool) → (kind == bubble) ≡ b → Some_below 2 (λ n. if kind == bubble then true else cnd_allowed ifun n && destination_allowed r n dst_e)
     by true e = record { n = 0; small = omega arith; may_be = choose_then _ _ _ e refl }

@@ -2,15 +2,12 @@
 use Rattle.std.proofs.Common.{◌≡◌, ℕ, ◌≤◌, Bool, false, List, map, sym, ◌∙◌, arith}
 use Rattle.y86_base.specs.declared.parts.Variant.{Variant}
 use Rattle.hcl_types.specs.declared.term.Term.{Term}
-use Rattle.hcl_types.specs.Tables.{IsSound}
 use Rattle.ctl_atoms.specs.declared.leaf.Leaf.{Leaf}
 use Rattle.ctl_atoms.specs.Leaves.{Assignment}
 use Rattle.control_values.specs.Given.{AreNear}
-use Rattle.dp_signals.proofs.Sound.{seq_sound}
 use Rattle.net_fields.specs.FieldSpecs.{total}
 use Rattle.findings.specs.Findings.{are_right, finding}
 use Rattle.findings.proofs.EachMet.{demand_false, findings_right}
-use Rattle.seq_plus.specs.Sound.{plus_sound}
 use Rattle.seq_requirements.specs.Datapaths.{allowed_of, defined_of, demand_of, spots_of}
 use Rattle.seq_plus.specs.Datapaths.{rows_of}
 use Rattle.seq_requirements.specs.Requirements.{requirements}
@@ -19,9 +16,7 @@ use Rattle.hcl_types.specs.declared.table.SequentialDatapath.TheVariants.{Seq, S
 use Rattle.seq_requirements.proofs.ByRequirements.{by_requirements}
 use Rattle.seq_diagnosis.specs.Diagnosis.{asks_at, numbers_at}
 
-pub sound : (which : SequentialDatapath) → IsSound (rows_of which)
-sound Seq = seq_sound
-sound SeqPlus = plus_sound
+pub use Rattle.seq_plus.specs.Sound.{sound_of as sound}
 
 pub near : (which : SequentialDatapath) → AreNear (spots_of which)
 near Seq = record { few = (omega arith, (omega arith, (omega arith, (omega arith, (omega arith, (omega arith, (omega arith, tt))))))); near = omega arith }

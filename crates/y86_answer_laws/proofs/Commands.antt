@@ -1,12 +1,12 @@
 -- Each command has one answer.
 use Rattle.std.proofs.Common.{◌≡◌, ◌≢◌, ◌⊎◌, inl, inr, None, refl, ℕ, Bool, true, false, List, [], Option, ap, sym, ◌∙◌, subst}
 use Rattle.dp_signals.specs.PipeTable.{pipe_rows}
-use Rattle.dp_signals.proofs.Sound.{pipe_sound, seq_sound}
+use Rattle.dp_signals.proofs.Sound.{pipe_sound}
 use Rattle.hcl_read.specs.Read.{ReadsAs}
 use Rattle.hcl_read.proofs.LawLemmas.{at_most_one_file}
-use Rattle.hcl_types.specs.Tables.{IsBound, IsOrderOf, IsSound}
+use Rattle.hcl_types.specs.Tables.{IsBound, IsOrderOf}
 use Rattle.hcl_types.specs.declared.term.Term.{Term}
-use Rattle.seq_plus.specs.Sound.{plus_sound}
+use Rattle.seq_plus.specs.Sound.{sound_of}
 use Rattle.wb_io.specs.Sinks.{Appended}
 use Rattle.y86_base.specs.declared.parts.Variant.{Variant}
 use Rattle.cli_runs.specs.Answers.{PipeAnswers, SeqAnswers, big_plan, checked_plan, hcl_plan, pipe_plan, psim_plan, seq_plan, ssim_plan, yas_plan, yis_plan}
@@ -57,10 +57,6 @@ unfolding aigrun_plan
 aigrun_plan_one name seed = reads_one _ _ _ (λ text. says_one (AigrunAnswers name text seed) (aigrun_one text seed name))
 
 -- ---- commands with a design
-
-sound_of : (which : SequentialDatapath) → IsSound (rows_of which)
-sound_of Seq = seq_sound
-sound_of SeqPlus = plus_sound
 
 seq_plan_one : (which : SequentialDatapath) (terms : List Term) (object : List ℕ) (size limit : ℕ) (v : Variant) (ids : List ℕ) → IsBound (rows_of which) terms →
     IsOrderOf (rows_of which) terms ids → HasOneAnswer (seq_plan which terms object size limit v)
