@@ -4,11 +4,11 @@ ghost use Rattle.hcl_tree.specs.declared.tree.CmpOp.TheVariants.{Eq};
 ghost use Rattle.hcl_types.specs.Lists.{each, some};
 ghost use Rattle.hcl_types.specs.Terms.{branch_value, picked, value};
 ghost use Rattle.ctl_atoms.specs.declared.leaf.Leaf.TheVariants.{Number};
-ghost use Rattle.ctl_atoms.specs.Leaves.{open_atom, open_lt, open_eq, decided_lt, leaf_cmp, leaf_holds, leaf_lt, leaf_same, leaf_meaning};
+ghost use Rattle.ctl_atoms.specs.Leaves.{open_atom, open_lt, open_eq, leaf_cmp, leaf_holds, leaf_lt, leaf_same, leaf_meaning};
 ghost use Rattle.control_values.specs.Given.{at, taken, taken_from, truth_from, truths_in};
 
-use ctl_atoms::{Atom, Leaf, atom_at, same_atom, same_leaf};
-use hcl_types::{CmpOp, Term, TermBranch, is_below};
+use ctl_atoms::{Atom, Leaf, atom_at, is_decided_below, same_atom, same_leaf};
+use hcl_types::{CmpOp, Term, TermBranch};
 
 /// The input of a term at a valuation: the atoms, whose truths are the bits from `first` on, and the control value of
 /// each name.
@@ -38,19 +38,6 @@ fn truth_of(atoms: &[Atom], first: usize, bits: &[bool], atom: Atom) -> bool
         }
     }
     false
-}
-
-/// Whether `x < y`, if that is decided at once.
-fn is_decided_below(x: Leaf, y: Leaf) -> bool
-    ensures { result ≡ decided_lt x y }
-{
-    match x {
-        Leaf::Number(p) => match y {
-            Leaf::Number(q) => is_below(p, q),
-            Leaf::Name(_) => false,
-        },
-        Leaf::Name(_) => false,
-    }
 }
 
 /// A truth as a leaf.

@@ -1,8 +1,8 @@
 //! Atoms: comparisons of words that are left open.
 ghost use Rattle.std.specs.Prelude.{◌≡◌, false, slice_get, MatchOption, Some};
-ghost use Rattle.ctl_atoms.specs.Leaves.{open_atom, open_eq, open_lt, atom_eq, has_atom, kind_eq, leaf_eq};
+ghost use Rattle.ctl_atoms.specs.Leaves.{open_atom, open_eq, open_lt, atom_eq, decided_lt, has_atom, kind_eq, leaf_eq};
 
-use hcl_types::{CmpOp, NameId};
+use hcl_types::{CmpOp, NameId, is_below};
 
 /// The value of a word while comparisons are left open: a Value name of the state or the hardware, or a constant.
 #[derive(Clone, Copy, Debug, PartialEq, Eq)]
@@ -131,6 +131,19 @@ fn ask_eq(x: Leaf, y: Leaf) -> Option<Atom>
                 }
             }
         },
+    }
+}
+
+/// Whether `x < y`, if that is decided at once.
+pub fn is_decided_below(x: Leaf, y: Leaf) -> bool
+    ensures { result ≡ decided_lt x y }
+{
+    match x {
+        Leaf::Number(p) => match y {
+            Leaf::Number(q) => is_below(p, q),
+            Leaf::Name(_) => false,
+        },
+        Leaf::Name(_) => false,
     }
 }
 

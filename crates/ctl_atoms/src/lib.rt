@@ -17,7 +17,7 @@ mod rows;
 
 pub use fault::CtlFault;
 pub use laws::{law_of_atoms, law_of_leaves};
-pub use leaf::{Atom, AtomKind, Leaf, atom_at, position, same_atom, same_leaf};
+pub use leaf::{Atom, AtomKind, Leaf, atom_at, is_decided_below, position, same_atom, same_leaf};
 pub use leaves::is_one;
 pub use listing::atoms;
 pub use rows::{definitions_before, leaves_by_name};

@@ -1,16 +1,16 @@
 //! The input of a translation, and the gates of atoms and comparisons.
 ghost use Rattle.std.specs.Prelude.{◌≡◌, ◌<◌, ◌≤◌, ◌+◌, length, List, Bool, IfOk, IsTrue};
 ghost use Rattle.nets.specs.Nets.{ExtendsNet, truth};
-ghost use Rattle.ctl_atoms.specs.Leaves.{has_atom, AtomsAre, Assignment, open_lt, open_eq, open_atom, is_listed, decided_lt, leaf_lt, leaf_same, leaf_cmp};
+ghost use Rattle.ctl_atoms.specs.Leaves.{has_atom, AtomsAre, Assignment, open_lt, open_eq, open_atom, is_listed, leaf_lt, leaf_same, leaf_cmp};
 ghost use Rattle.ctl_atoms.specs.declared.leaf.Leaf.{Leaf};
 ghost use Rattle.ctl_picks.specs.TakenPicks.{IsOnlyTaken, at};
 ghost use Rattle.ctl_terms.specs.Pairs.{row_listed, row_holds, pairs_listed, pairs_hold, leaves_listed};
 ghost use Rattle.ctl_picks.specs.Picks.{Within, leaves_of};
 ghost use Rattle.hcl_types.specs.Lists.{each};
 
-use ctl_atoms::{Atom, Leaf, atom_at, position, same_leaf};
+use ctl_atoms::{Atom, Leaf, atom_at, is_decided_below, position, same_leaf};
 use ctl_picks::{Entry, Pick};
-use hcl_types::{CmpOp, is_below};
+use hcl_types::CmpOp;
 use nets::NetBuilder;
 use y86_base::Memory;
 
@@ -20,19 +20,6 @@ pub struct Scope<'a> {
     pub entries: &'a [Entry],
     pub atoms: &'a [Atom],
     pub first: u32,
-}
-
-/// Whether `x < y`, if that is decided at once.
-fn is_decided_below(x: Leaf, y: Leaf) -> bool
-    ensures { result ≡ decided_lt x y }
-{
-    match x {
-        Leaf::Number(p) => match y {
-            Leaf::Number(q) => is_below(p, q),
-            Leaf::Name(_) => false,
-        },
-        Leaf::Name(_) => false,
-    }
 }
 
 impl<'a> Scope<'a> {
