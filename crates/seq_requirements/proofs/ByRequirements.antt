@@ -18,7 +18,7 @@ use Rattle.findings.specs.Requirements.{is_met}
 use Rattle.findings.specs.declared.requirement.Requirement.{Requirement}
 use Rattle.findings.proofs.EachMet.{one, two, if_both, guarded, excused, some_is}
 use Rattle.seq_obligations.specs.Fields as seq
-use Rattle.seq_obligations.specs.Obligations.{demand_at as seq_demand_at, faulted, shared_demand, shared_demands}
+use Rattle.seq_obligations.specs.Obligations.{demand_at as seq_demand_at, faulted, rule_count, shared_demand, shared_demands}
 use Rattle.dp_signals.specs.declared.sequential_rows.SignalRows.{SignalRows}
 use Rattle.seq_plus.specs.PlusNames as plus_row
 use Rattle.seq_plus_check.specs.Fields as plus
@@ -39,7 +39,7 @@ module _ (α : Assignment) (cv : ℕ → Leaf) where
   IsSaid s r c n = get_or (answers s r c) n true ≡ each (is_met α cv) (get_or (needs s r c) n [])
 
   -- no rule has number 0
-  each_said : (s : SignalRows) (r : Row) (c : seq.Fields) → EachFrom (IsSaid s r c) 0 16
+  each_said : (s : SignalRows) (r : Row) (c : seq.Fields) → EachFrom (IsSaid s r c) 0 rule_count
   each_said s r c =
       refl ▹
       two (is_number cv s.icode c.icode) (is_number cv s.ifun c.ifun) ▹
@@ -61,8 +61,8 @@ module _ (α : Assignment) (cv : ℕ → Leaf) where
 
   shared_is : (s : SignalRows) (i : ℕ) (r : Row) (c : seq.Fields) → shared_demand s i r c α cv ≡ each (is_met α cv) (shared_requirements s i r c)
   unfolding shared_requirements
-  shared_is s i r c = elim (cases_lt i 16) [
-    | inl lt ↦ each_below (IsSaid s r c) 16 (each_said s r c) i lt
+  shared_is s i r c = elim (cases_lt i rule_count) [
+    | inl lt ↦ each_below (IsSaid s r c) rule_count (each_said s r c) i lt
     | inr ge ↦ get_or_past (answers s r c) i true ge ∙ ap (λ xs. each (is_met α cv) xs) (sym (get_or_past (needs s r c) i [] ge))
   ]
 
@@ -70,11 +70,11 @@ module _ (α : Assignment) (cv : ℕ → Leaf) where
   unfolding seq_demand_at plus_demand_at
   by_requirements Seq v xs i =
       let c = seq.fields_by xs in
-      if_both (is_met α cv) (i == 16) _ _ _ _
+      if_both (is_met α cv) (i == rule_count) _ _ _ _
       (excused (is_met α cv) (faulted c) _ _ (some_is α cv seq_row.new_pc (next_leaf (row v c.icode).next seq_row.valP seq_row.valC seq_row.valM (set c.cnd))))
       (shared_is (signals_of Seq) i (row_of Seq v xs) (line_of Seq xs))
   by_requirements SeqPlus v xs i =
       let c = plus.fields_by xs in
-      if_both (is_met α cv) (i == 16) _ _ _ _
+      if_both (is_met α cv) (i == rule_count) _ _ _ _
       (some_is α cv plus_row.pc (next_leaf (row v c.icode).next plus_row.pValP plus_row.pValC plus_row.pValM (set c.cnd)))
       (shared_is (signals_of SeqPlus) i (row_of SeqPlus v xs) (line_of SeqPlus xs))

@@ -44,7 +44,7 @@ required10 s r c = only_if (has_operand_a r.alu_a) (number s.alufun (alu_functio
 abbrev pub required13 : SignalRows → Row → List Requirement
 required13 s r = requirement_of s.mem_read (wanted.Truth (is_load r.memory)) ∷ truth s.mem_write (is_store r.memory)
 
--- what the obligations 1 to 15 require, in their order
+-- what the obligations but the last require, in their order
 abbrev pub shared_required : SignalRows → Row → Fields → List (List Requirement)
 shared_required s r c =
     required1 s c ∷
@@ -66,7 +66,7 @@ shared_required s r c =
 unfoldable pub shared_requirements : SignalRows → ℕ → Row → Fields → List Requirement
 shared_requirements s i r c = get_or ([] ∷ shared_required s r c) i []
 
--- ---- the PC, obligation 16 of each
+-- ---- the PC, the last obligation of each
 
 -- SEQ: new_pc is the address to which the instruction leads; one that faults needs none
 abbrev pub seq_next : Row → Fields → List Requirement
@@ -89,10 +89,10 @@ abbrev pub next_requirements : SequentialDatapath → Variant → List ℕ → L
 next_requirements Seq v xs = seq_next (row_of Seq v xs) (line_of Seq xs)
 next_requirements SeqPlus v xs = plus_next v (plus.fields_by xs).icode (plus.fields_by xs).cnd
 
--- what obligation i requires, from 1 to 16
+-- what obligation i requires
 abbrev pub requirements : SequentialDatapath → Variant → List ℕ → ℕ → List Requirement
 requirements which v xs i =
-    if i == 16 then next_requirements which v xs else shared_requirements (signals_of which) i (row_of which v xs) (line_of which xs)
+    if i == seq_rule.rule_count then next_requirements which v xs else shared_requirements (signals_of which) i (row_of which v xs) (line_of which xs)
 
 -- obligation i is met exactly if each of its requirements is
 abbrev pub IsByRequirements : SequentialDatapath → Variant → List ℕ → Assignment → (ℕ → Leaf) → ℕ → Type 0

@@ -16,6 +16,7 @@ use findings::{
     register_number, set,
 };
 use hcl_types::{NameId, SequentialDatapath};
+use seq_obligations::RULE_COUNT;
 use seq_plus::row::{self as plus_row, PLUS};
 use std::alloc::Global;
 use y86_base::{Memory, Variant};
@@ -91,7 +92,8 @@ fn put_access(out: &mut Vec<Requirement>, s: &SignalRows, r: &Row) -> Result<(),
     put_truth(out, s.mem_write, is_store(r.memory))
 }
 
-/// What an obligation from 1 to 15 requires, which both datapaths share.
+/// What an obligation that both datapaths share requires: any but the last. A number of no such obligation requires
+/// nothing.
 #[tactic(auto, unfolding(crate::specs::Requirements::shared_requirements))]
 fn put_shared(
     out: &mut Vec<Requirement>,
@@ -122,7 +124,7 @@ fn put_shared(
     }
 }
 
-/// What obligation 16 of SEQ requires: the next PC, unless a fault stops the instruction.
+/// What the last obligation of SEQ requires: the next PC, unless a fault stops the instruction.
 fn put_seq_next(out: &mut Vec<Requirement>, r: &Row, l: &LineNow) -> Result<(), Memory>
     ensures { OnOk result (out.new.items ≡ out.old.items ++ spec.seq_next r.now (fields_in l.now)) }
 {
@@ -139,7 +141,7 @@ fn put_seq_next(out: &mut Vec<Requirement>, r: &Row, l: &LineNow) -> Result<(), 
     put_some(out, seq_row::NEW_PC, leaf)
 }
 
-/// What obligation 16 of SEQ+ requires: the next PC of the previous instruction.
+/// What the last obligation of SEQ+ requires: the next PC of the previous instruction.
 fn put_plus_next(out: &mut Vec<Requirement>, v: Variant, icode: u64, cnd: u64) -> Result<(), Memory>
     ensures { OnOk result (out.new.items ≡ out.old.items ++ spec.plus_next v icode cnd) }
 {
@@ -153,7 +155,7 @@ fn put_plus_next(out: &mut Vec<Requirement>, v: Variant, icode: u64, cnd: u64) -
     put_some(out, PLUS.pc, leaf)
 }
 
-/// What obligation 16 requires.
+/// What the last obligation requires.
 fn put_next(
     out: &mut Vec<Requirement>,
     which: SequentialDatapath,
@@ -188,7 +190,7 @@ pub fn requirements_of(
     let mut out = Vec::new(alloc);
     let l = line_of(which, bits);
     let r = row(v, l.icode);
-    if rule == 16 {
+    if rule == RULE_COUNT {
         put_next(&mut out, which, v, bits, &r, &l)?;
     } else {
         put_shared(&mut out, signals_of(which), rule, &r, &l)?;
