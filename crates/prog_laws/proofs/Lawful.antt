@@ -1,5 +1,5 @@
 -- Numbers each of which may follow those before it are those of an allowed valuation.
-use Rattle.std.proofs.Common.{◌≡◌, ◌+◌, ℕ, ◌<◌, Bool, true, false, not, ◌&&◌, ◌||◌, ◌==◌, nat_lt, nat_le, if◌then◌else◌, List, length, get_or, slice_get, unwrap_or, refl, ap, sym, subst, arith}
+use Rattle.std.proofs.Common.{◌≡◌, ℕ, ◌<◌, Bool, true, false, not, ◌&&◌, ◌||◌, ◌==◌, nat_le, if◌then◌else◌, length, slice_get, unwrap_or, refl, ap, sym, subst, arith}
 use Rattle.std.proofs.lemmas.Bool.{eqb-true, and_from}
 use Rattle.std.proofs.lemmas.Bool.Decides.{nat_tests}
 use Rattle.y86_base.specs.declared.parts.Variant.{Variant}
@@ -7,9 +7,8 @@ use Rattle.y86_base.specs.declared.parts.Variant.TheVariants.{Base, Full}
 use Rattle.y86_base.specs.Words.{set}
 use Rattle.y86_base.proofs.Booleans.{and_second, and_first}
 use Rattle.y86_isa.specs.declared.columns.Row.{Row}
-use Rattle.y86_isa.specs.RowTests.{accesses, next_is_branch}
 use Rattle.y86_isa.specs.Table.{rows, row, dash_row, inop, no_register}
-use Rattle.net_fields.specs.AllowedNumbers.{register_field_allowed, register_allowed, cnd_allowed_where, zero_unless, cnd_allowed, icode_allowed, shares_register}
+use Rattle.net_fields.specs.AllowedNumbers.{register_field_allowed, register_allowed, cnd_allowed_where, zero_unless, cnd_allowed, icode_allowed}
 use Rattle.pipe_fields.specs.Layout.{Fields, FetchLine, DecodeLine, ExecuteLine, MemoryLine, WriteLine, numbers, bubble}
 use Rattle.pipe_fields.specs.Allowed.{allowed, fetch_row_allowed, decode_row_allowed, execute_row_allowed, memory_row_allowed, write_row_allowed, fetch_allowed, decode_allowed, execute_allowed, memory_allowed, write_allowed, is_good_aok}
 use Rattle.prog_gen.specs.Choices.{AreChosen, ifun_choice_allowed}
