@@ -1,11 +1,14 @@
--- The code's lines, stage flows and register controls as those of the definitions.
+-- The code's lines, stage flows and register controls as those of the definitions, and a definition at what the code knows.
+use Rattle.y86_base.specs.declared.parts.Variant.{Variant}
 use Rattle.pipe_fields.specs.Layout.{Fields}
 use Rattle.pipe_motion.specs.Flow.{StageFlow, Flow, RegisterControl, RegisterControls}
+use Rattle.pipe_motion.specs.declared.settings.Settings.{Settings}
 use Rattle.pipe_requirements.specs.declared.lines.Lines as code
 use Rattle.pipe_requirements.specs.declared.flow.StageFlowNow.{StageFlowNow}
 use Rattle.pipe_requirements.specs.declared.flow.FlowNow.{FlowNow}
 use Rattle.pipe_requirements.specs.declared.flow.RegisterControlNow.{RegisterControlNow}
 use Rattle.pipe_requirements.specs.declared.flow.RegisterControlsNow.{RegisterControlsNow}
+use Rattle.pipe_requirements.specs.declared.now.Now.{Now}
 
 abbrev pub fields_in : code.Lines → Fields
 fields_in l =
@@ -60,3 +63,7 @@ as_register_control k = record { stall = k.stall; bubble = k.bubble }
 
 abbrev pub as_register_controls : RegisterControlsNow → RegisterControls
 as_register_controls k = record { f = as_register_control k.f; d = as_register_control k.d; e = as_register_control k.e; m = as_register_control k.m; w = as_register_control k.w }
+
+-- a definition of the requirements at the variant, settings, fields, flow, and stall and bubble signals that are known
+abbrev pub at_now : {A : Type 0} → (Variant → Settings → Fields → Flow → RegisterControls → A) → Now → A
+at_now f n = f n.v n.s.now (fields_in n.l.now) (as_flow n.y.now) (as_register_controls n.mv.now)

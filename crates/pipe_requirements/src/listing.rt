@@ -2,7 +2,7 @@
 ghost use Rattle.std.specs.Prelude.{◌≡◌, ◌<◌, ◌≤◌, ◌++◌, ◌∷◌, [], IfOk, OnOk, if◌then◌else◌};
 ghost use Rattle.control_values.specs.Given.{at};
 ghost use Rattle.pipe_requirements.specs.Requirements as spec;
-ghost use Rattle.pipe_requirements.specs.Flows.{fields_in, as_register_controls, as_flow};
+ghost use Rattle.pipe_requirements.specs.Flows.{at_now};
 
 use crate::flow::leaves;
 use crate::now::Now;
@@ -29,7 +29,7 @@ fn put_right(
     source: NameId,
     rest: NameId,
 ) -> Result<(), Memory>
-    ensures { OnOk result (out.new.items ≡ out.old.items ++ spec.right_word n.now.v n.now.s.now (fields_in n.now.l.now) (as_flow n.now.y.now) (as_register_controls n.now.mv.now) (at n.now.leaves.now) free word source rest) }
+    ensures { OnOk result (out.new.items ≡ out.old.items ++ at_now spec.right_word n.now (at n.now.leaves.now) free word source rest) }
 {
     if is_number(n.leaves, source, 15) {
         return Ok(());
@@ -45,7 +45,7 @@ fn put_right(
 
 /// What obligation 1 requires.
 fn put_1(out: &mut Vec<Requirement>, n: &Now<'_>) -> Result<(), Memory>
-    ensures { OnOk result (out.new.items ≡ out.old.items ++ spec.required1 n.now.v n.now.s.now (fields_in n.now.l.now) (as_flow n.now.y.now) (as_register_controls n.now.mv.now) (at n.now.leaves.now)) }
+    ensures { OnOk result (out.new.items ≡ out.old.items ++ at_now spec.required1 n.now (at n.now.leaves.now)) }
 {
     put_word(out, name::F_ICODE, Leaf::Number(n.l.f.icode))?;
     put_number(out, name::F_IFUN, n.l.f.ifun)
@@ -53,7 +53,7 @@ fn put_1(out: &mut Vec<Requirement>, n: &Now<'_>) -> Result<(), Memory>
 
 /// What obligation 2 requires.
 fn put_2(out: &mut Vec<Requirement>, n: &Now<'_>) -> Result<(), Memory>
-    ensures { OnOk result (out.new.items ≡ out.old.items ++ spec.required2 n.now.v n.now.s.now (fields_in n.now.l.now) (as_flow n.now.y.now) (as_register_controls n.now.mv.now) (at n.now.leaves.now)) }
+    ensures { OnOk result (out.new.items ≡ out.old.items ++ at_now spec.required2 n.now (at n.now.leaves.now)) }
 {
     put_number(
         out,
@@ -64,21 +64,21 @@ fn put_2(out: &mut Vec<Requirement>, n: &Now<'_>) -> Result<(), Memory>
 
 /// What obligation 3 requires.
 fn put_3(out: &mut Vec<Requirement>, n: &Now<'_>) -> Result<(), Memory>
-    ensures { OnOk result (out.new.items ≡ out.old.items ++ spec.required3 n.now.v n.now.s.now (fields_in n.now.l.now) (as_flow n.now.y.now) (as_register_controls n.now.mv.now) (at n.now.leaves.now)) }
+    ensures { OnOk result (out.new.items ≡ out.old.items ++ at_now spec.required3 n.now (at n.now.leaves.now)) }
 {
     put_truth(out, name::NEED_REGIDS, row(n.v, n.l.f.icode).has_byte)
 }
 
 /// What obligation 4 requires.
 fn put_4(out: &mut Vec<Requirement>, n: &Now<'_>) -> Result<(), Memory>
-    ensures { OnOk result (out.new.items ≡ out.old.items ++ spec.required4 n.now.v n.now.s.now (fields_in n.now.l.now) (as_flow n.now.y.now) (as_register_controls n.now.mv.now) (at n.now.leaves.now)) }
+    ensures { OnOk result (out.new.items ≡ out.old.items ++ at_now spec.required4 n.now (at n.now.leaves.now)) }
 {
     put_truth(out, name::NEED_VAL_C, row(n.v, n.l.f.icode).has_const)
 }
 
 /// What obligation 5 requires.
 fn put_5(out: &mut Vec<Requirement>, n: &Now<'_>) -> Result<(), Memory>
-    ensures { OnOk result (out.new.items ≡ out.old.items ++ spec.required5 n.now.v n.now.s.now (fields_in n.now.l.now) (as_flow n.now.y.now) (as_register_controls n.now.mv.now) (at n.now.leaves.now)) }
+    ensures { OnOk result (out.new.items ≡ out.old.items ++ at_now spec.required5 n.now (at n.now.leaves.now)) }
 {
     if set(n.l.f.error) {
         return Ok(());
@@ -88,7 +88,7 @@ fn put_5(out: &mut Vec<Requirement>, n: &Now<'_>) -> Result<(), Memory>
 
 /// What obligation 6 requires.
 fn put_6(out: &mut Vec<Requirement>, n: &Now<'_>) -> Result<(), Memory>
-    ensures { OnOk result (out.new.items ≡ out.old.items ++ spec.required6 n.now.v n.now.s.now (fields_in n.now.l.now) (as_flow n.now.y.now) (as_register_controls n.now.mv.now) (at n.now.leaves.now)) }
+    ensures { OnOk result (out.new.items ≡ out.old.items ++ at_now spec.required6 n.now (at n.now.leaves.now)) }
 {
     put_number(
         out,
@@ -99,7 +99,7 @@ fn put_6(out: &mut Vec<Requirement>, n: &Now<'_>) -> Result<(), Memory>
 
 /// What obligation 7 requires.
 fn put_7(out: &mut Vec<Requirement>, n: &Now<'_>) -> Result<(), Memory>
-    ensures { OnOk result (out.new.items ≡ out.old.items ++ spec.required7 n.now.v n.now.s.now (fields_in n.now.l.now) (as_flow n.now.y.now) (as_register_controls n.now.mv.now) (at n.now.leaves.now)) }
+    ensures { OnOk result (out.new.items ≡ out.old.items ++ at_now spec.required7 n.now (at n.now.leaves.now)) }
 {
     put_number(
         out,
@@ -110,7 +110,7 @@ fn put_7(out: &mut Vec<Requirement>, n: &Now<'_>) -> Result<(), Memory>
 
 /// What obligation 8 requires.
 fn put_8(out: &mut Vec<Requirement>, n: &Now<'_>) -> Result<(), Memory>
-    ensures { OnOk result (out.new.items ≡ out.old.items ++ spec.required8 n.now.v n.now.s.now (fields_in n.now.l.now) (as_flow n.now.y.now) (as_register_controls n.now.mv.now) (at n.now.leaves.now)) }
+    ensures { OnOk result (out.new.items ≡ out.old.items ++ at_now spec.required8 n.now (at n.now.leaves.now)) }
 {
     put_number(
         out,
@@ -121,7 +121,7 @@ fn put_8(out: &mut Vec<Requirement>, n: &Now<'_>) -> Result<(), Memory>
 
 /// What obligation 9 requires.
 fn put_9(out: &mut Vec<Requirement>, n: &Now<'_>) -> Result<(), Memory>
-    ensures { OnOk result (out.new.items ≡ out.old.items ++ spec.required9 n.now.v n.now.s.now (fields_in n.now.l.now) (as_flow n.now.y.now) (as_register_controls n.now.mv.now) (at n.now.leaves.now)) }
+    ensures { OnOk result (out.new.items ≡ out.old.items ++ at_now spec.required9 n.now (at n.now.leaves.now)) }
 {
     put_number(
         out,
@@ -132,7 +132,7 @@ fn put_9(out: &mut Vec<Requirement>, n: &Now<'_>) -> Result<(), Memory>
 
 /// What obligation 10 requires.
 fn put_10(out: &mut Vec<Requirement>, n: &Now<'_>) -> Result<(), Memory>
-    ensures { OnOk result (out.new.items ≡ out.old.items ++ spec.required10 n.now.v n.now.s.now (fields_in n.now.l.now) (as_flow n.now.y.now) (as_register_controls n.now.mv.now) (at n.now.leaves.now)) }
+    ensures { OnOk result (out.new.items ≡ out.old.items ++ at_now spec.required10 n.now (at n.now.leaves.now)) }
 {
     if !leaves(n.mv, n.y) {
         return Ok(());
@@ -153,7 +153,7 @@ fn put_10(out: &mut Vec<Requirement>, n: &Now<'_>) -> Result<(), Memory>
 
 /// What obligation 11 requires.
 fn put_11(out: &mut Vec<Requirement>, n: &Now<'_>) -> Result<(), Memory>
-    ensures { OnOk result (out.new.items ≡ out.old.items ++ spec.required11 n.now.v n.now.s.now (fields_in n.now.l.now) (as_flow n.now.y.now) (as_register_controls n.now.mv.now) (at n.now.leaves.now)) }
+    ensures { OnOk result (out.new.items ≡ out.old.items ++ at_now spec.required11 n.now (at n.now.leaves.now)) }
 {
     if !leaves(n.mv, n.y) {
         return Ok(());
@@ -163,7 +163,7 @@ fn put_11(out: &mut Vec<Requirement>, n: &Now<'_>) -> Result<(), Memory>
 
 /// What obligation 12 requires.
 fn put_12(out: &mut Vec<Requirement>, n: &Now<'_>) -> Result<(), Memory>
-    ensures { OnOk result (out.new.items ≡ out.old.items ++ spec.required12 n.now.v n.now.s.now (fields_in n.now.l.now) (as_flow n.now.y.now) (as_register_controls n.now.mv.now) (at n.now.leaves.now)) }
+    ensures { OnOk result (out.new.items ≡ out.old.items ++ at_now spec.required12 n.now (at n.now.leaves.now)) }
 {
     if !n.works_in_e() {
         return Ok(());
@@ -181,7 +181,7 @@ fn put_12(out: &mut Vec<Requirement>, n: &Now<'_>) -> Result<(), Memory>
 
 /// What obligation 13 requires.
 fn put_13(out: &mut Vec<Requirement>, n: &Now<'_>) -> Result<(), Memory>
-    ensures { OnOk result (out.new.items ≡ out.old.items ++ spec.required13 n.now.v n.now.s.now (fields_in n.now.l.now) (as_flow n.now.y.now) (as_register_controls n.now.mv.now) (at n.now.leaves.now)) }
+    ensures { OnOk result (out.new.items ≡ out.old.items ++ at_now spec.required13 n.now (at n.now.leaves.now)) }
 {
     if !n.works_in_e() {
         return Ok(());
@@ -195,7 +195,7 @@ fn put_13(out: &mut Vec<Requirement>, n: &Now<'_>) -> Result<(), Memory>
 
 /// What obligation 14 requires.
 fn put_14(out: &mut Vec<Requirement>, n: &Now<'_>) -> Result<(), Memory>
-    ensures { OnOk result (out.new.items ≡ out.old.items ++ spec.required14 n.now.v n.now.s.now (fields_in n.now.l.now) (as_flow n.now.y.now) (as_register_controls n.now.mv.now) (at n.now.leaves.now)) }
+    ensures { OnOk result (out.new.items ≡ out.old.items ++ at_now spec.required14 n.now (at n.now.leaves.now)) }
 {
     let here = row(n.v, n.l.e.icode);
     if !(n.works_in_e() && has_operand_a(here.alu_a)) {
@@ -206,7 +206,7 @@ fn put_14(out: &mut Vec<Requirement>, n: &Now<'_>) -> Result<(), Memory>
 
 /// What obligation 15 requires.
 fn put_15(out: &mut Vec<Requirement>, n: &Now<'_>) -> Result<(), Memory>
-    ensures { OnOk result (out.new.items ≡ out.old.items ++ spec.required15 n.now.v n.now.s.now (fields_in n.now.l.now) (as_flow n.now.y.now) (as_register_controls n.now.mv.now) (at n.now.leaves.now)) }
+    ensures { OnOk result (out.new.items ≡ out.old.items ++ at_now spec.required15 n.now (at n.now.leaves.now)) }
 {
     put_truth(
         out,
@@ -217,7 +217,7 @@ fn put_15(out: &mut Vec<Requirement>, n: &Now<'_>) -> Result<(), Memory>
 
 /// What obligation 16 requires.
 fn put_16(out: &mut Vec<Requirement>, n: &Now<'_>) -> Result<(), Memory>
-    ensures { OnOk result (out.new.items ≡ out.old.items ++ spec.required16 n.now.v n.now.s.now (fields_in n.now.l.now) (as_flow n.now.y.now) (as_register_controls n.now.mv.now) (at n.now.leaves.now)) }
+    ensures { OnOk result (out.new.items ≡ out.old.items ++ at_now spec.required16 n.now (at n.now.leaves.now)) }
 {
     let here = row(n.v, n.l.e.icode);
     if !(n.y.e.good && (select_a_is_val_a(&here) || select_a_is_val_p(&here))) {
@@ -232,7 +232,7 @@ fn put_16(out: &mut Vec<Requirement>, n: &Now<'_>) -> Result<(), Memory>
 
 /// What obligation 17 requires.
 fn put_17(out: &mut Vec<Requirement>, n: &Now<'_>) -> Result<(), Memory>
-    ensures { OnOk result (out.new.items ≡ out.old.items ++ spec.required17 n.now.v n.now.s.now (fields_in n.now.l.now) (as_flow n.now.y.now) (as_register_controls n.now.mv.now) (at n.now.leaves.now)) }
+    ensures { OnOk result (out.new.items ≡ out.old.items ++ at_now spec.required17 n.now (at n.now.leaves.now)) }
 {
     if n.y.e.wrong {
         return Ok(());
@@ -242,7 +242,7 @@ fn put_17(out: &mut Vec<Requirement>, n: &Now<'_>) -> Result<(), Memory>
 
 /// What obligation 18 requires.
 fn put_18(out: &mut Vec<Requirement>, n: &Now<'_>) -> Result<(), Memory>
-    ensures { OnOk result (out.new.items ≡ out.old.items ++ spec.required18 n.now.v n.now.s.now (fields_in n.now.l.now) (as_flow n.now.y.now) (as_register_controls n.now.mv.now) (at n.now.leaves.now)) }
+    ensures { OnOk result (out.new.items ≡ out.old.items ++ at_now spec.required18 n.now (at n.now.leaves.now)) }
 {
     if !n.y.m.good {
         return Ok(());
@@ -260,7 +260,7 @@ fn put_18(out: &mut Vec<Requirement>, n: &Now<'_>) -> Result<(), Memory>
 
 /// What obligation 19 requires.
 fn put_19(out: &mut Vec<Requirement>, n: &Now<'_>) -> Result<(), Memory>
-    ensures { OnOk result (out.new.items ≡ out.old.items ++ spec.required19 n.now.v n.now.s.now (fields_in n.now.l.now) (as_flow n.now.y.now) (as_register_controls n.now.mv.now) (at n.now.leaves.now)) }
+    ensures { OnOk result (out.new.items ≡ out.old.items ++ at_now spec.required19 n.now (at n.now.leaves.now)) }
 {
     let memory = row(n.v, n.l.m.icode).memory;
     put_truth(out, name::MEM_READ, n.y.m.good && is_load(memory))?;
@@ -269,7 +269,7 @@ fn put_19(out: &mut Vec<Requirement>, n: &Now<'_>) -> Result<(), Memory>
 
 /// What obligation 20 requires.
 fn put_20(out: &mut Vec<Requirement>, n: &Now<'_>) -> Result<(), Memory>
-    ensures { OnOk result (out.new.items ≡ out.old.items ++ spec.required20 n.now.v n.now.s.now (fields_in n.now.l.now) (as_flow n.now.y.now) (as_register_controls n.now.mv.now) (at n.now.leaves.now)) }
+    ensures { OnOk result (out.new.items ≡ out.old.items ++ at_now spec.required20 n.now (at n.now.leaves.now)) }
 {
     put_number(
         out,
@@ -280,7 +280,7 @@ fn put_20(out: &mut Vec<Requirement>, n: &Now<'_>) -> Result<(), Memory>
 
 /// What obligation 21 requires.
 fn put_21(out: &mut Vec<Requirement>, n: &Now<'_>) -> Result<(), Memory>
-    ensures { OnOk result (out.new.items ≡ out.old.items ++ spec.required21 n.now.v n.now.s.now (fields_in n.now.l.now) (as_flow n.now.y.now) (as_register_controls n.now.mv.now) (at n.now.leaves.now)) }
+    ensures { OnOk result (out.new.items ≡ out.old.items ++ at_now spec.required21 n.now (at n.now.leaves.now)) }
 {
     if !n.y.w.good {
         return Ok(());
@@ -293,7 +293,7 @@ fn put_21(out: &mut Vec<Requirement>, n: &Now<'_>) -> Result<(), Memory>
 
 /// What obligation 22 requires.
 fn put_22(out: &mut Vec<Requirement>, n: &Now<'_>) -> Result<(), Memory>
-    ensures { OnOk result (out.new.items ≡ out.old.items ++ spec.required22 n.now.v n.now.s.now (fields_in n.now.l.now) (as_flow n.now.y.now) (as_register_controls n.now.mv.now) (at n.now.leaves.now)) }
+    ensures { OnOk result (out.new.items ≡ out.old.items ++ at_now spec.required22 n.now (at n.now.leaves.now)) }
 {
     put_number(out, name::STAT, if n.y.w.good { n.l.w.stat } else { 1 })
 }
@@ -303,7 +303,7 @@ fn put_22(out: &mut Vec<Requirement>, n: &Now<'_>) -> Result<(), Memory>
 fn put_required(out: &mut Vec<Requirement>, n: &Now<'_>, rule: u32) -> Result<(), Memory>
     requires first { 1 ≤ rule }
     requires last { rule < spec.first_on_motion }
-    ensures { OnOk result (out.new.items ≡ out.old.items ++ spec.requirements n.now.v n.now.s.now (fields_in n.now.l.now) (as_flow n.now.y.now) (as_register_controls n.now.mv.now) (at n.now.leaves.now) rule) }
+    ensures { OnOk result (out.new.items ≡ out.old.items ++ at_now spec.requirements n.now (at n.now.leaves.now) rule) }
 {
     match rule {
         1 => put_1(out, n),
@@ -336,7 +336,7 @@ fn put_required(out: &mut Vec<Requirement>, n: &Now<'_>, rule: u32) -> Result<()
 pub fn requirements_of(alloc: Global, n: &Now<'_>, rule: u32) -> Result<Vec<Requirement>, Memory>
     requires first { 1 ≤ rule }
     requires last { rule < spec.first_on_motion }
-    ensures { IfOk result (λ r. r.items ≡ spec.requirements n.now.v n.now.s.now (fields_in n.now.l.now) (as_flow n.now.y.now) (as_register_controls n.now.mv.now) (at n.now.leaves.now) rule) }
+    ensures { IfOk result (λ r. r.items ≡ at_now spec.requirements n.now (at n.now.leaves.now) rule) }
 {
     let mut out = Vec::new(alloc);
     put_required(&mut out, n, rule)?;

@@ -8,7 +8,7 @@ ghost use Rattle.pipe_motion.specs.Predictions as predictions;
 ghost use Rattle.y86_base.specs.Words as numbers;
 ghost use Rattle.y86_isa.specs.Table as table;
 ghost use Rattle.pipe_requirements.specs.Requirements.{unread};
-ghost use Rattle.pipe_requirements.specs.Flows.{fields_in, as_register_controls, as_flow};
+ghost use Rattle.pipe_requirements.specs.Flows.{at_now};
 
 use crate::flow::{FlowNow, RegisterControlsNow, predicts};
 use crate::lines::Lines;
@@ -53,7 +53,7 @@ pub fn predicted_leaf(next: NextPcColumn, taken: bool) -> Option<Leaf>
 impl<'a> Now<'a> {
     /// E's destination after the condition.
     pub fn late_dst_e(&self) -> u64
-        ensures { result ≡ rule.late_dst_e self.now.v self.now.s.now (fields_in self.now.l.now) (as_flow self.now.y.now) (as_register_controls self.now.mv.now) unread (at self.now.leaves.now) }
+        ensures { result ≡ at_now rule.late_dst_e self.now unread (at self.now.leaves.now) }
     {
         destination_e(
             row(self.v, self.l.e.icode).conditional,
@@ -64,14 +64,14 @@ impl<'a> Now<'a> {
 
     /// The source is the register that the good instruction in E is loading.
     pub fn loaded_in_e(&self, source: NameId) -> bool
-        ensures { result ≡ rule.loaded_in_e self.now.v self.now.s.now (fields_in self.now.l.now) (as_flow self.now.y.now) (as_register_controls self.now.mv.now) unread (at self.now.leaves.now) source }
+        ensures { result ≡ at_now rule.loaded_in_e self.now unread (at self.now.leaves.now) source }
     {
         self.y.e.good && is_number(self.leaves, source, self.l.e.dst_m)
     }
 
     /// Where the value of a source is.
     pub fn right_value(&self, source: NameId, rest: NameId) -> Leaf
-        ensures { result ≡ rule.right_value self.now.v self.now.s.now (fields_in self.now.l.now) (as_flow self.now.y.now) (as_register_controls self.now.mv.now) unread (at self.now.leaves.now) source rest }
+        ensures { result ≡ at_now rule.right_value self.now unread (at self.now.leaves.now) source rest }
     {
         let late = self.late_dst_e();
         if self.y.e.good && is_number(self.leaves, source, late) {
@@ -91,14 +91,14 @@ impl<'a> Now<'a> {
 
     /// A good instruction with status 1 (AOK) is in E.
     pub fn works_in_e(&self) -> bool
-        ensures { result ≡ rule.works_in_e self.now.v self.now.s.now (fields_in self.now.l.now) (as_flow self.now.y.now) (as_register_controls self.now.mv.now) unread (at self.now.leaves.now) }
+        ensures { result ≡ at_now rule.works_in_e self.now unread (at self.now.leaves.now) }
     {
         self.y.e.good && self.l.e.stat == 1
     }
 
     /// A store takes the word that it stores from the load in M.
     pub fn word_comes_late(&self) -> bool
-        ensures { result ≡ rule.word_comes_late self.now.v self.now.s.now (fields_in self.now.l.now) (as_flow self.now.y.now) (as_register_controls self.now.mv.now) unread (at self.now.leaves.now) }
+        ensures { result ≡ at_now rule.word_comes_late self.now unread (at self.now.leaves.now) }
     {
         self.s.lf
             && (stores_val_a(row(self.v, self.l.e.icode).memory)
