@@ -2,7 +2,7 @@
 ghost use Rattle.std.specs.Prelude.{◌≡◌, ◌&&◌, IfOk, filter};
 ghost use Rattle.control_values.specs.Given.{at};
 ghost use Rattle.pipe_requirements.specs.Requirements.{unread};
-ghost use Rattle.pipe_requirements.specs.Flows.{fields_in, as_register_control, as_register_controls, as_flow};
+ghost use Rattle.pipe_requirements.specs.Flows.{fields_in, as_register_control, as_register_controls, as_flow, at_now};
 ghost use Rattle.pipe_obligations.specs.Obligations as rule;
 ghost use Rattle.motion_repairs.specs.Changes as spec;
 
@@ -52,7 +52,7 @@ pub fn with_inverted(signal: NameId, k: &RegisterControlsNow) -> RegisterControl
 
 /// The signal picks the right value of a source.
 fn picks_right_value(n: &Now<'_>, free: bool, signal: NameId, source: NameId, rest: NameId) -> bool
-    ensures { result ≡ rule.picks_right_value n.now.v n.now.s.now (fields_in n.now.l.now) (as_flow n.now.y.now) (as_register_controls n.now.mv.now) unread (at n.now.leaves.now) free signal source rest }
+    ensures { result ≡ at_now rule.picks_right_value n.now unread (at n.now.leaves.now) free signal source rest }
 {
     is_number(n.leaves, source, 15)
         || (if n.loaded_in_e(source) {
@@ -63,7 +63,7 @@ fn picks_right_value(n: &Now<'_>, free: bool, signal: NameId, source: NameId, re
 }
 
 fn met_10(n: &Now<'_>) -> bool
-    ensures { result ≡ rule.o10 n.now.v n.now.s.now (fields_in n.now.l.now) (as_flow n.now.y.now) (as_register_controls n.now.mv.now) unread (at n.now.leaves.now) }
+    ensures { result ≡ at_now rule.o10 n.now unread (at n.now.leaves.now) }
 {
     let here = row(n.v, n.l.d.icode);
     !leaves(n.mv, n.y)
@@ -78,18 +78,18 @@ fn met_10(n: &Now<'_>) -> bool
 }
 
 fn met_11(n: &Now<'_>) -> bool
-    ensures { result ≡ rule.o11 n.now.v n.now.s.now (fields_in n.now.l.now) (as_flow n.now.y.now) (as_register_controls n.now.mv.now) unread (at n.now.leaves.now) }
+    ensures { result ≡ at_now rule.o11 n.now unread (at n.now.leaves.now) }
 {
     !leaves(n.mv, n.y) || picks_right_value(n, false, name::D_VAL_B, name::D_SRC_B, name::D_RVAL_B)
 }
 
 /// The obligations from 23 on are met.
 fn moves_well(n: &Now<'_>) -> bool
-    ensures { result ≡ (rule.o23 n.now.v n.now.s.now (fields_in n.now.l.now) (as_flow n.now.y.now) (as_register_controls n.now.mv.now) unread (at n.now.leaves.now)
-        && (rule.o24 n.now.v n.now.s.now (fields_in n.now.l.now) (as_flow n.now.y.now) (as_register_controls n.now.mv.now) unread (at n.now.leaves.now)
-        && (rule.o25 n.now.v n.now.s.now (fields_in n.now.l.now) (as_flow n.now.y.now) (as_register_controls n.now.mv.now) unread (at n.now.leaves.now)
-        && (rule.o26 n.now.v n.now.s.now (fields_in n.now.l.now) (as_flow n.now.y.now) (as_register_controls n.now.mv.now) unread (at n.now.leaves.now)
-        && rule.o27 n.now.v n.now.s.now (fields_in n.now.l.now) (as_flow n.now.y.now) (as_register_controls n.now.mv.now) unread (at n.now.leaves.now))))) }
+    ensures { result ≡ (at_now rule.o23 n.now unread (at n.now.leaves.now)
+        && (at_now rule.o24 n.now unread (at n.now.leaves.now)
+        && (at_now rule.o25 n.now unread (at n.now.leaves.now)
+        && (at_now rule.o26 n.now unread (at n.now.leaves.now)
+        && at_now rule.o27 n.now unread (at n.now.leaves.now))))) }
 {
     let facts = fetched(n);
     registers_move_well(n, is_fetch_good(n), &facts)
@@ -97,7 +97,7 @@ fn moves_well(n: &Now<'_>) -> bool
 
 /// Whether all obligations on motion are met.
 pub fn meets_motion(n: &Now<'_>) -> bool
-    ensures { result ≡ spec.meets_motion n.now.v n.now.s.now (fields_in n.now.l.now) (as_flow n.now.y.now) (as_register_controls n.now.mv.now) unread (at n.now.leaves.now) }
+    ensures { result ≡ at_now spec.meets_motion n.now unread (at n.now.leaves.now) }
 {
     met_10(n) && (met_11(n) && moves_well(n))
 }
@@ -141,7 +141,7 @@ pub(crate) fn stall_bubble_signals() -> &'static [NameId]
 /// The signals that each, inverted alone, meet all obligations on motion.
 #[tactic(auto, unfolding(crate::specs::Changes::signal_repairs))]
 pub fn signal_repairs(alloc: Global, n: &Now<'_>) -> Result<Vec<NameId>, Memory>
-    ensures { IfOk result (λ r. r.items ≡ spec.signal_repairs n.now.v n.now.s.now (fields_in n.now.l.now) (as_flow n.now.y.now) (as_register_controls n.now.mv.now) unread (at n.now.leaves.now)) }
+    ensures { IfOk result (λ r. r.items ≡ at_now spec.signal_repairs n.now unread (at n.now.leaves.now)) }
 {
     let mut out = Vec::new(alloc);
     for signal in stall_bubble_signals() {
@@ -172,7 +172,7 @@ fn with_pc(alloc: Global, leaves: &[Leaf], source: NameId) -> Result<Vec<Leaf>, 
 /// Whether the obligations on motion are met if `f_pc` picks this name.
 #[tactic(auto, unfolding(crate::specs::Changes::is_pc_repair))]
 pub(crate) fn is_repaired_by_pc(alloc: Global, n: &Now<'_>, source: NameId) -> Result<bool, Memory>
-    ensures { IfOk result (λ met. met ≡ spec.is_pc_repair n.now.v n.now.s.now (fields_in n.now.l.now) (as_flow n.now.y.now) (as_register_controls n.now.mv.now) unread n.now.leaves.now source) }
+    ensures { IfOk result (λ met. met ≡ at_now spec.is_pc_repair n.now unread n.now.leaves.now source) }
 {
     let leaves = with_pc(alloc, n.leaves, source)?;
     let other = Now {
@@ -206,7 +206,7 @@ pub(crate) fn pc_sources() -> &'static [NameId]
 /// The names that each, picked by `f_pc`, meet all obligations on motion.
 #[tactic(auto, unfolding(crate::specs::Changes::pc_repairs))]
 pub fn pc_repairs(alloc: Global, n: &Now<'_>) -> Result<Vec<NameId>, Memory>
-    ensures { IfOk result (λ r. r.items ≡ spec.pc_repairs n.now.v n.now.s.now (fields_in n.now.l.now) (as_flow n.now.y.now) (as_register_controls n.now.mv.now) unread n.now.leaves.now) }
+    ensures { IfOk result (λ r. r.items ≡ at_now spec.pc_repairs n.now unread n.now.leaves.now) }
 {
     let mut out = Vec::new(alloc);
     for source in pc_sources() {

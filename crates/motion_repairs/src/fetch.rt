@@ -4,7 +4,7 @@ ghost use Rattle.control_values.specs.Given.{at};
 ghost use Rattle.ctl_atoms.specs.declared.leaf.Leaf.TheVariants as leaf;
 ghost use Rattle.ctl_rules.specs.ColumnDemands as words;
 ghost use Rattle.pipe_requirements.specs.Requirements.{unread};
-ghost use Rattle.pipe_requirements.specs.Flows.{fields_in, as_register_controls, as_stage_flow, as_flow};
+ghost use Rattle.pipe_requirements.specs.Flows.{as_stage_flow, at_now};
 ghost use Rattle.pipe_obligations.specs.Obligations as rule;
 
 use crate::moves::{of_youngest, path, youngest_stops};
@@ -32,7 +32,7 @@ fn code_of(leaf: Leaf) -> u64
 }
 
 fn right_after_e(n: &Now<'_>) -> bool
-    ensures { result ≡ rule.right_after_e n.now.v n.now.s.now (fields_in n.now.l.now) (as_flow n.now.y.now) (as_register_controls n.now.mv.now) unread (at n.now.leaves.now) }
+    ensures { result ≡ at_now rule.right_after_e n.now unread (at n.now.leaves.now) }
 {
     is_jump(n.v, n.l.e.stat, n.l.e.icode)
         && picks_leaf(
@@ -47,7 +47,7 @@ fn right_after_e(n: &Now<'_>) -> bool
 }
 
 fn right_after_m(n: &Now<'_>) -> bool
-    ensures { result ≡ rule.right_after_m n.now.v n.now.s.now (fields_in n.now.l.now) (as_flow n.now.y.now) (as_register_controls n.now.mv.now) unread (at n.now.leaves.now) }
+    ensures { result ≡ at_now rule.right_after_m n.now unread (at n.now.leaves.now) }
 {
     (is_jump(n.v, n.l.m.stat, n.l.m.icode)
         && (if set(n.l.m.cnd) {
@@ -59,14 +59,14 @@ fn right_after_m(n: &Now<'_>) -> bool
 }
 
 fn right_after_w(n: &Now<'_>) -> bool
-    ensures { result ≡ rule.right_after_w n.now.v n.now.s.now (fields_in n.now.l.now) (as_flow n.now.y.now) (as_register_controls n.now.mv.now) unread (at n.now.leaves.now) }
+    ensures { result ≡ at_now rule.right_after_w n.now unread (at n.now.leaves.now) }
 {
     n.y.w.ret && picks_leaf(n.leaves, name::F_PC, name::HELD_W_VAL_M)
 }
 
 /// The fetch is that of the next instruction.
 pub fn is_fetch_good(n: &Now<'_>) -> bool
-    ensures { result ≡ rule.fetch_good n.now.v n.now.s.now (fields_in n.now.l.now) (as_flow n.now.y.now) (as_register_controls n.now.mv.now) unread (at n.now.leaves.now) }
+    ensures { result ≡ at_now rule.fetch_good n.now unread (at n.now.leaves.now) }
 {
     let right = of_youngest(
         n.y,
@@ -81,7 +81,7 @@ pub fn is_fetch_good(n: &Now<'_>) -> bool
 
 /// What D loads from a good fetch.
 pub fn fetched(n: &Now<'_>) -> StageFlowNow
-    ensures { as_stage_flow result ≡ rule.fetched n.now.v n.now.s.now (fields_in n.now.l.now) (as_flow n.now.y.now) (as_register_controls n.now.mv.now) unread (at n.now.leaves.now) }
+    ensures { as_stage_flow result ≡ at_now rule.fetched n.now unread (at n.now.leaves.now) }
 {
     let stat = code_of(leaf_at(n.leaves, name::F_STAT));
     let icode = code_of(leaf_at(n.leaves, name::F_ICODE));

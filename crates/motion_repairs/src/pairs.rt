@@ -2,7 +2,7 @@
 ghost use Rattle.std.specs.Prelude.{◌≡◌, ◌++◌, IfOk, OnOk, filter, if◌then◌else◌};
 ghost use Rattle.control_values.specs.Given.{at};
 ghost use Rattle.pipe_requirements.specs.Requirements.{unread};
-ghost use Rattle.pipe_requirements.specs.Flows.{fields_in, as_register_controls, as_flow};
+ghost use Rattle.pipe_requirements.specs.Flows.{fields_in, as_register_controls, as_flow, at_now};
 ghost use Rattle.motion_repairs.specs.Pairs as spec;
 
 use crate::changes::{
@@ -85,7 +85,7 @@ fn combinations(alloc: Global, firsts: &[NameId], seconds: &[NameId]) -> Result<
 /// Whether the obligations on motion are met with both signals inverted.
 #[tactic(auto, unfolding(crate::specs::Pairs::is_met_by_both))]
 fn is_met_by_both(n: &Now<'_>, pair: Pair) -> bool
-    ensures { result ≡ spec.is_met_by_both n.now.v n.now.s.now (fields_in n.now.l.now) (as_flow n.now.y.now) (as_register_controls n.now.mv.now) unread n.now.leaves.now pair }
+    ensures { result ≡ at_now spec.is_met_by_both n.now unread n.now.leaves.now pair }
 {
     let mv = with_inverted(pair.first, n.mv);
     let other = Now {
@@ -102,7 +102,7 @@ fn is_met_by_both(n: &Now<'_>, pair: Pair) -> bool
 /// Whether they are met with the first name inverted, if `f_pc` picks the second one.
 #[tactic(auto, unfolding(crate::specs::Pairs::is_met_with_pc))]
 fn is_met_with_pc(alloc: Global, n: &Now<'_>, pair: Pair) -> Result<bool, Memory>
-    ensures { IfOk result (λ met. met ≡ spec.is_met_with_pc n.now.v n.now.s.now (fields_in n.now.l.now) (as_flow n.now.y.now) (as_register_controls n.now.mv.now) unread n.now.leaves.now pair) }
+    ensures { IfOk result (λ met. met ≡ at_now spec.is_met_with_pc n.now unread n.now.leaves.now pair) }
 {
     let mv = with_inverted(pair.first, n.mv);
     let other = Now {
@@ -119,7 +119,7 @@ fn is_met_with_pc(alloc: Global, n: &Now<'_>, pair: Pair) -> Result<bool, Memory
 /// The pairs of signals that, inverted together, meet all obligations on motion.
 #[tactic(auto, unfolding(crate::specs::Pairs::both_repairs))]
 fn both_repairs(alloc: Global, n: &Now<'_>) -> Result<Vec<Pair>, Memory>
-    ensures { IfOk result (λ r. r.items ≡ spec.both_repairs n.now.v n.now.s.now (fields_in n.now.l.now) (as_flow n.now.y.now) (as_register_controls n.now.mv.now) unread n.now.leaves.now) }
+    ensures { IfOk result (λ r. r.items ≡ at_now spec.both_repairs n.now unread n.now.leaves.now) }
 {
     let pairs = pairs_of(alloc, stall_bubble_signals())?;
     let mut out = Vec::new(alloc);
@@ -137,7 +137,7 @@ fn both_repairs(alloc: Global, n: &Now<'_>) -> Result<Vec<Pair>, Memory>
 /// The signals, each with a choice of `f_pc`, that meet all obligations on motion together.
 #[tactic(auto, unfolding(crate::specs::Pairs::repairs_with_pc))]
 fn repairs_with_pc(alloc: Global, n: &Now<'_>) -> Result<Vec<Pair>, Memory>
-    ensures { IfOk result (λ r. r.items ≡ spec.repairs_with_pc n.now.v n.now.s.now (fields_in n.now.l.now) (as_flow n.now.y.now) (as_register_controls n.now.mv.now) unread n.now.leaves.now) }
+    ensures { IfOk result (λ r. r.items ≡ at_now spec.repairs_with_pc n.now unread n.now.leaves.now) }
 {
     let pairs = combinations(alloc, stall_bubble_signals(), pc_sources())?;
     let mut out = Vec::new(alloc);

@@ -6,7 +6,7 @@ ghost use Rattle.ctl_atoms.specs.Atoms.{AreAtoms};
 ghost use Rattle.control_values.specs.Given.{assigned, at};
 ghost use Rattle.ctl_atoms.specs.Leaves.{leaf_holds};
 ghost use Rattle.pipe_requirements.specs.Requirements.{requirements, unread};
-ghost use Rattle.pipe_requirements.specs.Flows.{fields_in, as_register_controls, as_flow};
+ghost use Rattle.pipe_requirements.specs.Flows.{as_register_controls, at_now};
 ghost use Rattle.dp_signals.specs.PipeNames as signal;
 ghost use Rattle.findings.specs.Findings.{finding};
 ghost use Rattle.pipe_fields.specs.Layout.{fields_of};
@@ -89,7 +89,7 @@ pub fn register_controls_at(scope: &Scope<'_>) -> RegisterControlsNow
 #[tactic(auto, using(crate::proofs::OneWrong::none_behind))]
 fn requirements_at(alloc: Global, n: &Now<'_>, number: u32) -> Result<Vec<Requirement>, Memory>
     requires { 1 ≤ number }
-    ensures { IfOk result (λ r. r.items ≡ requirements n.now.v n.now.s.now (fields_in n.now.l.now) (as_flow n.now.y.now) (as_register_controls n.now.mv.now) (at n.now.leaves.now) number) }
+    ensures { IfOk result (λ r. r.items ≡ at_now requirements n.now (at n.now.leaves.now) number) }
 {
     if number < FIRST_ON_MOTION {
         requirements_of(alloc, n, number)
