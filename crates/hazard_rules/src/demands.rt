@@ -1,17 +1,12 @@
 //! What each of the 27 obligations demands, by its number.
-ghost use Rattle.std.specs.Prelude.{◌≤◌, IfOk, length};
+ghost use Rattle.std.specs.Prelude.{◌≤◌, IfOk};
 ghost use Rattle.nets.specs.Nets.{ExtendsNet};
-ghost use Rattle.ctl_picks.specs.Picks.{Covers, IsInside};
-ghost use Rattle.dp_signals.specs.PipeTable.{pipe_rows};
-ghost use Rattle.pipe_fields.specs.Layout.{bit_count, fields_of};
-ghost use Rattle.pipe_motion.specs.Gates.{HasFlow, flow_at};
 ghost use Rattle.ctl_rules.specs.ControlGates.{IsControlGate};
-ghost use Rattle.pipe_obligations.specs.Obligations.{register_controls_of};
+ghost use Rattle.pipe_gates.specs.Inputs.{IsRuleReady, at_inputs};
 ghost use Rattle.pipe_obligations.specs.Rules.{demand, rule_count};
 
-use ctl_picks::Controls;
 use nets::NetBuilder;
-use pipe_motion::{FlowGates, Settings};
+use pipe_gates::RuleInputs;
 use pipe_motion_gates::{
     obligation_23, obligation_24, obligation_25, obligation_26, obligation_27,
 };
@@ -20,28 +15,25 @@ use pipe_stage_gates::{
     obligation_10, obligation_11, obligation_14, obligation_15, obligation_16, obligation_17,
     obligation_18, obligation_19, obligation_20, obligation_21, obligation_22,
 };
-use y86_base::{Memory, Variant};
+use y86_base::Memory;
 
 /// What the obligation of a number from 1 to 27 demands.
 #[tactic(auto, using(pipe_stage_gates::proofs::Ready::ready_by, pipe_stage_gates::proofs::Ready::front_ready_by))]
 pub(crate) fn demand_gate(
     b: &mut NetBuilder,
-    ctl: &Controls,
-    v: Variant,
-    s: &Settings,
-    y: &FlowGates,
+    inputs: &RuleInputs<'_>,
     number: u32,
 ) -> Result<u64, Memory>
-    requires inside { IsInside b.old ctl.now }
-    requires vars { bit_count ≤ b.old.vars }
-    requires flow { HasFlow (length b.old.gates) y.now }
-    requires known { Covers pipe_rows ctl.now }
+    requires ready { IsRuleReady b.old inputs.now }
     requires from { 1 ≤ number }
     requires to { number ≤ rule_count }
     ensures extends { ExtendsNet b.old b.new }
-    ensures has_truth { IfOk result (λ g. IsControlGate b.new ctl.now g (λ w α cv.
-        demand number v s.now (fields_of w) (flow_at b.old w y.now) (register_controls_of α cv) α cv)) }
+    ensures has_truth { IfOk result (λ g. IsControlGate b.new inputs.now.controls.now g (at_inputs (demand number) b.old inputs.now)) }
 {
+    let ctl = inputs.controls;
+    let v = inputs.variant;
+    let s = inputs.settings;
+    let y = inputs.flow;
     match number {
         1 => obligation_1(b, ctl),
         2 => fetch_rule_gate(b, ctl, v, FrontRule::Status),
@@ -52,8 +44,8 @@ pub(crate) fn demand_gate(
         7 => decode_rule_gate(b, ctl, v, FrontRule::SourceB),
         8 => decode_rule_gate(b, ctl, v, FrontRule::DestinationE),
         9 => decode_rule_gate(b, ctl, v, FrontRule::DestinationM),
-        10 => obligation_10(b, ctl, v, s, y),
-        11 => obligation_11(b, ctl, v, s, y),
+        10 => obligation_10(b, inputs),
+        11 => obligation_11(b, inputs),
         12 => demand_in_e(b, ctl, v, y.e.good, RowRule::OperandA),
         13 => demand_in_e(b, ctl, v, y.e.good, RowRule::OperandB),
         14 => obligation_14(b, ctl, v, y.e.good),
@@ -67,7 +59,7 @@ pub(crate) fn demand_gate(
         22 => obligation_22(b, ctl, y.w.good),
         23 => obligation_23(b, ctl),
         24 => obligation_24(b, ctl, y),
-        25 => obligation_25(b, ctl, v, s, y),
+        25 => obligation_25(b, inputs),
         26 => obligation_26(b, ctl, y),
         27 => obligation_27(b, ctl, y),
         _ => unreachable!(),

@@ -17,7 +17,7 @@ use ctl_atoms::Atom;
 use ctl_picks::Controls;
 use ctl_rules::Rule;
 use nets::{NetBuilder, implies};
-use pipe_gates::flow_gates;
+use pipe_gates::{RuleInputs, flow_gates};
 use pipe_motion::{FlowGates, Settings};
 use pipe_motion_gates::{is_always_demanded, premise_gate};
 use pipe_obligations::RULE_COUNT;
@@ -82,10 +82,16 @@ pub(crate) fn rules_told(
     ensures rules { IfOk result (λ list. AreRuleGates v s.now b.new ctl.now atoms.now list.items) }
 {
     let p = premises_of(b, v, s, atoms)?;
+    let inputs = RuleInputs {
+        variant: v,
+        settings: s,
+        controls: ctl,
+        flow: &p.flow,
+    };
     let mut list = Vec::new(alloc);
     for i in 0..RULE_COUNT {
         let number = i + 1;
-        let demand = demand_gate(b, ctl, v, s, &p.flow, number)?;
+        let demand = demand_gate(b, &inputs, number)?;
         let premise = one_of(is_always_demanded(number as u64), p.always, p.going);
         let gate = implies(b, premise, demand)?;
         push(&mut list, Rule { number, gate })?;

@@ -1,3 +1,4 @@
 pub mod Choices
 pub mod Found
+pub mod InputsKept
 pub mod Known

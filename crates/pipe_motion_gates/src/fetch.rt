@@ -1,13 +1,12 @@
 //! Obligation 25: whether the fetch is that of the next instruction, and the next cycle's flow.
-#![tactic(auto, using(nets::proofs::Truths::begins_more, ctl_picks::proofs::Inside::inside_more, pipe_motion::proofs::Kept::flow_stays, pipe_gates::proofs::Known::known_f_pc, pipe_gates::proofs::Known::known_f_stat, pipe_gates::proofs::Known::known_f_icode, pipe_gates::proofs::Known::known_f_ifun))]
+#![tactic(auto, using(nets::proofs::Truths::begins_more, ctl_picks::proofs::Inside::inside_more, pipe_motion::proofs::Kept::flow_stays, pipe_gates::proofs::InputsKept::inputs_stay, pipe_gates::proofs::Known::known_f_pc, pipe_gates::proofs::Known::known_f_stat, pipe_gates::proofs::Known::known_f_icode, pipe_gates::proofs::Known::known_f_ifun))]
 
 ghost use Rattle.std.specs.Prelude.{◌<◌, ◌≤◌, ◌&&◌, ◌||◌, false, get_or, if◌then◌else◌, IfOk, IsTrue, length};
 ghost use Rattle.nets.specs.Nets.{ExtendsNet, truth};
 ghost use Rattle.ctl_atoms.specs.declared.leaf.Leaf.TheVariants.{Name};
-ghost use Rattle.ctl_picks.specs.Picks.{Covers, IsInside, has_picks};
+ghost use Rattle.ctl_picks.specs.Picks.{IsInside, has_picks};
 ghost use Rattle.y86_base.specs.Words.{set};
 ghost use Rattle.dp_signals.specs.PipeNames as names;
-ghost use Rattle.dp_signals.specs.PipeTable.{pipe_rows};
 ghost use Rattle.ctl_rules.specs.ControlGates.{IsControlGate};
 ghost use Rattle.ctl_rules.specs.ColumnDemands as words;
 ghost use Rattle.pipe_fields.specs.Layout.{bit_count, fields_of};
@@ -16,6 +15,7 @@ ghost use Rattle.pipe_motion.specs.Predictions.{predicts};
 ghost use Rattle.pipe_motion.specs.Flow.{path};
 ghost use Rattle.pipe_gates.specs.Columns.{has};
 ghost use Rattle.pipe_gates.specs.GateTruths.{AreStageFlowGates};
+ghost use Rattle.pipe_gates.specs.Inputs.{HasInputs, IsRuleReady, at_inputs};
 ghost use Rattle.pipe_obligations.specs.Obligations as spec;
 ghost use Rattle.pipe_obligations.specs.StageFlows as stages;
 
@@ -29,7 +29,7 @@ use nets::{NetBuilder, choose};
 use pipe_fields::places::{
     E_CND, E_ICODE, E_STAT, F_BACK, F_STOPS, F_TAKEN, M_CND, M_ICODE, M_STAT,
 };
-use pipe_gates::{RowTest, jump, register_controls_of, row_passes};
+use pipe_gates::{RowTest, RuleInputs, jump, register_controls_of, row_passes};
 use pipe_motion::{FlowGates, Settings, StageFlowGates, of_youngest, path_gate, stops_gate};
 use y86_base::{Memory, Variant};
 use y86_isa::row;
@@ -271,25 +271,23 @@ fn right_after_m(
 }
 
 /// The youngest good instruction is a jump or ret whose stage has the address where it goes, and f_pc is that one.
-fn right_pc(
-    b: &mut NetBuilder,
-    ctl: &Controls,
-    v: Variant,
-    s: &Settings,
-    y: &FlowGates,
-) -> Result<u64, Memory>
-    requires inside { IsInside b.old ctl.now }
-    requires known { IsTrue (has_picks ctl.now names.f_pc) }
-    requires vars { bit_count ≤ b.old.vars }
-    requires flow { HasFlow (length b.old.gates) y.now }
+fn right_pc(b: &mut NetBuilder, inputs: &RuleInputs<'_>) -> Result<u64, Memory>
+    requires has { HasInputs b.old inputs.now }
+    requires known { IsTrue (has_picks inputs.now.controls.now names.f_pc) }
     ensures extends { ExtendsNet b.old b.new }
-    ensures has_truth { IfOk result (λ g. IsControlGate b.new ctl.now g (λ w α cv. spec.right_pc v s.now (fields_of w) (flow_at b.old w y.now) (spec.register_controls_of α cv) α cv)) }
+    ensures has_truth { IfOk result (λ g. IsControlGate b.new inputs.now.controls.now g (at_inputs spec.right_pc b.old inputs.now)) }
 {
     let never = b.constant(false)?;
-    let e = right_after_e(b, ctl, v)?;
-    let m = right_after_m(b, ctl, v, s.tv, y.m.ret)?;
-    let w = goes_to(b, ctl, y.w.ret, signal::HELD_W_VAL_M)?;
-    of_youngest(b, y, never, e, m, w)
+    let e = right_after_e(b, inputs.controls, inputs.variant)?;
+    let m = right_after_m(
+        b,
+        inputs.controls,
+        inputs.variant,
+        inputs.settings.tv,
+        inputs.flow.m.ret,
+    )?;
+    let w = goes_to(b, inputs.controls, inputs.flow.w.ret, signal::HELD_W_VAL_M)?;
+    of_youngest(b, inputs.flow, never, e, m, w)
 }
 
 /// f_pc is the predicted PC, on the path.
@@ -311,45 +309,28 @@ fn on_path(b: &mut NetBuilder, ctl: &Controls, y: &FlowGates) -> Result<u64, Mem
 }
 
 /// The fetch is that of the next instruction.
-fn fetch_good(
-    b: &mut NetBuilder,
-    ctl: &Controls,
-    v: Variant,
-    s: &Settings,
-    y: &FlowGates,
-) -> Result<u64, Memory>
-    requires inside { IsInside b.old ctl.now }
-    requires known { IsTrue (has_picks ctl.now names.f_pc) }
-    requires vars { bit_count ≤ b.old.vars }
-    requires flow { HasFlow (length b.old.gates) y.now }
+fn fetch_good(b: &mut NetBuilder, inputs: &RuleInputs<'_>) -> Result<u64, Memory>
+    requires has { HasInputs b.old inputs.now }
+    requires known { IsTrue (has_picks inputs.now.controls.now names.f_pc) }
     ensures extends { ExtendsNet b.old b.new }
-    ensures has_truth { IfOk result (λ g. IsControlGate b.new ctl.now g (λ w α cv. spec.fetch_good v s.now (fields_of w) (flow_at b.old w y.now) (spec.register_controls_of α cv) α cv)) }
+    ensures has_truth { IfOk result (λ g. IsControlGate b.new inputs.now.controls.now g (at_inputs spec.fetch_good b.old inputs.now)) }
 {
-    let ahead = on_path(b, ctl, y)?;
-    let right = right_pc(b, ctl, v, s, y)?;
+    let ahead = on_path(b, inputs.controls, inputs.flow)?;
+    let right = right_pc(b, inputs)?;
     let next = b.or(ahead, right)?;
-    let stops = stops_gate(b, y)?;
+    let stops = stops_gate(b, inputs.flow)?;
     let goes_on = b.not(stops)?;
     b.and(goes_on, next)
 }
 
 /// Obligation 25: the next cycle's flow is legal, has no wrong instruction in M and W, and keeps the path.
-pub fn obligation_25(
-    b: &mut NetBuilder,
-    ctl: &Controls,
-    v: Variant,
-    s: &Settings,
-    y: &FlowGates,
-) -> Result<u64, Memory>
-    requires inside { IsInside b.old ctl.now }
-    requires vars { bit_count ≤ b.old.vars }
-    requires flow { HasFlow (length b.old.gates) y.now }
-    requires known { Covers pipe_rows ctl.now }
+pub fn obligation_25(b: &mut NetBuilder, inputs: &RuleInputs<'_>) -> Result<u64, Memory>
+    requires ready { IsRuleReady b.old inputs.now }
     ensures extends { ExtendsNet b.old b.new }
-    ensures has_truth { IfOk result (λ g. IsControlGate b.new ctl.now g (λ w α cv. spec.o25 v s.now (fields_of w) (flow_at b.old w y.now) (spec.register_controls_of α cv) α cv)) }
+    ensures has_truth { IfOk result (λ g. IsControlGate b.new inputs.now.controls.now g (at_inputs spec.o25 b.old inputs.now)) }
 {
-    let controls = register_controls_of(ctl);
-    let good = fetch_good(b, ctl, v, s, y)?;
-    let facts = fetched_facts(b, ctl, v, s)?;
-    pipe_motion::obligation_25(b, &controls, good, &facts, y, s)
+    let controls = register_controls_of(inputs.controls);
+    let good = fetch_good(b, inputs)?;
+    let facts = fetched_facts(b, inputs.controls, inputs.variant, inputs.settings)?;
+    pipe_motion::obligation_25(b, &controls, good, &facts, inputs.flow, inputs.settings)
 }

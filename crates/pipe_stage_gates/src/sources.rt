@@ -1,20 +1,19 @@
 //! The right value of a source: that of the youngest older instruction that writes its register (CS:APP 3e, section 4.5.5,
 //! avoiding data hazards by forwarding). Obligations 10 and 11.
-#![tactic(auto, using(nets::proofs::Truths::begins_more, ctl_picks::proofs::Inside::inside_more, pipe_motion::proofs::Kept::flow_stays, pipe_gates::proofs::Known::known_d_valA, pipe_gates::proofs::Known::known_d_srcA, pipe_gates::proofs::Known::known_d_valB, pipe_gates::proofs::Known::known_d_srcB), unfolding(pipe_fields::specs::Layout::fields_of))]
+#![tactic(auto, using(nets::proofs::Truths::begins_more, ctl_picks::proofs::Inside::inside_more, pipe_gates::proofs::InputsKept::inputs_stay, pipe_gates::proofs::Known::known_d_valA, pipe_gates::proofs::Known::known_d_srcA, pipe_gates::proofs::Known::known_d_valB, pipe_gates::proofs::Known::known_d_srcB), unfolding(pipe_fields::specs::Layout::fields_of))]
 
 ghost use Rattle.std.specs.Prelude.{◌<◌, ◌≤◌, ◌+◌, ◌&&◌, ◌||◌, if◌then◌else◌, IfOk, IsTrue, length, not};
 ghost use Rattle.nets.specs.Nets.{ExtendsNet, IsGate, truth};
 ghost use Rattle.ctl_atoms.specs.declared.leaf.Leaf.TheVariants.{Name};
-ghost use Rattle.ctl_picks.specs.Picks.{Covers, IsInside, has_picks};
+ghost use Rattle.ctl_picks.specs.Picks.{IsInside, has_picks};
 ghost use Rattle.net_fields.specs.Spelling.{spelt};
 ghost use Rattle.dp_signals.specs.PipeNames as names;
-ghost use Rattle.dp_signals.specs.PipeTable.{pipe_rows};
 ghost use Rattle.y86_isa.specs.RowTests.{select_a_is_val_p, stores_val_a};
 ghost use Rattle.y86_isa.specs.Table.{row};
 ghost use Rattle.ctl_rules.specs.ControlGates.{IsControlGate};
 ghost use Rattle.ctl_rules.specs.ColumnDemands as words;
 ghost use Rattle.pipe_fields.specs.Layout.{bit_count, fields_of};
-ghost use Rattle.pipe_motion.specs.Gates.{HasFlow, flow_at};
+ghost use Rattle.pipe_gates.specs.Inputs.{HasInputs, IsRuleReady, at_inputs};
 ghost use Rattle.pipe_obligations.specs.Obligations as spec;
 
 use crate::execute::late_destination_is;
@@ -26,8 +25,7 @@ use hcl_types::NameId;
 use net_fields::BitRange;
 use nets::{NetBuilder, choose, implies};
 use pipe_fields::places::{D_ICODE, E_DST_M, M_DST_E, M_DST_M, W_DST_E, W_DST_M};
-use pipe_gates::{RowTest, none_leaves, row_has};
-use pipe_motion::{FlowGates, Settings};
+use pipe_gates::{RowTest, RuleInputs, none_leaves, row_has};
 use y86_base::{Memory, Variant};
 
 /// A word that takes the value of a source, and the leaf that it takes if no instruction in E, M or W writes the
@@ -90,29 +88,20 @@ fn from_m_on(b: &mut NetBuilder, ctl: &Controls, operand: Operand) -> Result<u64
 }
 
 /// The word takes the right value of a source.
-fn takes_value(
-    b: &mut NetBuilder,
-    ctl: &Controls,
-    v: Variant,
-    s: &Settings,
-    y: &FlowGates,
-    operand: Operand,
-) -> Result<u64, Memory>
-    requires inside { IsInside b.old ctl.now }
-    requires word_known { IsTrue (has_picks ctl.now operand.word) }
-    requires source_known { IsTrue (has_picks ctl.now operand.source) }
-    requires vars { bit_count ≤ b.old.vars }
-    requires flow { HasFlow (length b.old.gates) y.now }
+fn takes_value(b: &mut NetBuilder, inputs: &RuleInputs<'_>, operand: Operand) -> Result<u64, Memory>
+    requires has { HasInputs b.old inputs.now }
+    requires word_known { IsTrue (has_picks inputs.now.controls.now operand.word) }
+    requires source_known { IsTrue (has_picks inputs.now.controls.now operand.source) }
     ensures extends { ExtendsNet b.old b.new }
-    ensures has_truth { IfOk result (λ g. IsControlGate b.new ctl.now g (λ w α cv.
-        words.picks_leaf cv operand.word (spec.right_value v s.now (fields_of w) (flow_at b.old w y.now) (spec.register_controls_of α cv) α cv operand.source operand.rest))) }
+    ensures has_truth { IfOk result (λ g. IsControlGate b.new inputs.now.controls.now g (λ w α cv.
+        words.picks_leaf cv operand.word (at_inputs spec.right_value b.old inputs.now w α cv operand.source operand.rest))) }
 {
-    let older = from_m_on(b, ctl, operand)?;
-    let writes = late_destination_is(b, ctl, v, operand.source)?;
-    let in_e = b.and(y.e.good, writes)?;
+    let older = from_m_on(b, inputs.controls, operand)?;
+    let writes = late_destination_is(b, inputs.controls, inputs.variant, operand.source)?;
+    let in_e = b.and(inputs.flow.e.good, writes)?;
     let taken = picks_leaf(
         b,
-        ctl,
+        inputs.controls,
         operand.word,
         ExpectedLeaf::This(Leaf::Name(signal::E_VAL_E)),
     )?;
@@ -120,52 +109,48 @@ fn takes_value(
 }
 
 /// The word takes the right value of a source; if the good instruction in E is loading it, `free` counts.
-fn takes_ready(
-    b: &mut NetBuilder,
-    ctl: &Controls,
-    v: Variant,
-    s: &Settings,
-    y: &FlowGates,
-    operand: Operand,
-) -> Result<u64, Memory>
-    requires inside { IsInside b.old ctl.now }
-    requires word_known { IsTrue (has_picks ctl.now operand.word) }
-    requires source_known { IsTrue (has_picks ctl.now operand.source) }
-    requires vars { bit_count ≤ b.old.vars }
-    requires flow { HasFlow (length b.old.gates) y.now }
+fn takes_ready(b: &mut NetBuilder, inputs: &RuleInputs<'_>, operand: Operand) -> Result<u64, Memory>
+    requires has { HasInputs b.old inputs.now }
+    requires word_known { IsTrue (has_picks inputs.now.controls.now operand.word) }
+    requires source_known { IsTrue (has_picks inputs.now.controls.now operand.source) }
     requires free_in { operand.free < length b.old.gates }
     ensures extends { ExtendsNet b.old b.new }
-    ensures has_truth { IfOk result (λ g. IsControlGate b.new ctl.now g (λ w α cv.
-        if spec.loaded_in_e v s.now (fields_of w) (flow_at b.old w y.now) (spec.register_controls_of α cv) α cv operand.source then truth b.old operand.free w
-        else words.picks_leaf cv operand.word (spec.right_value v s.now (fields_of w) (flow_at b.old w y.now) (spec.register_controls_of α cv) α cv operand.source operand.rest))) }
+    ensures has_truth { IfOk result (λ g. IsControlGate b.new inputs.now.controls.now g (λ w α cv.
+        if at_inputs spec.loaded_in_e b.old inputs.now w α cv operand.source then truth b.old operand.free w
+        else words.picks_leaf cv operand.word (at_inputs spec.right_value b.old inputs.now w α cv operand.source operand.rest))) }
 {
-    let right = takes_value(b, ctl, v, s, y, operand)?;
-    let loads = picks_leaf(b, ctl, operand.source, ExpectedLeaf::Field(E_DST_M))?;
-    let loaded = b.and(y.e.good, loads)?;
+    let right = takes_value(b, inputs, operand)?;
+    let loads = picks_leaf(
+        b,
+        inputs.controls,
+        operand.source,
+        ExpectedLeaf::Field(E_DST_M),
+    )?;
+    let loaded = b.and(inputs.flow.e.good, loads)?;
     choose(b, loaded, operand.free, right)
 }
 
 /// There is no source, or the word takes its right value; if that value isn't known yet, `free` counts.
 fn picks_right_value(
     b: &mut NetBuilder,
-    ctl: &Controls,
-    v: Variant,
-    s: &Settings,
-    y: &FlowGates,
+    inputs: &RuleInputs<'_>,
     operand: Operand,
 ) -> Result<u64, Memory>
-    requires inside { IsInside b.old ctl.now }
-    requires word_known { IsTrue (has_picks ctl.now operand.word) }
-    requires source_known { IsTrue (has_picks ctl.now operand.source) }
-    requires vars { bit_count ≤ b.old.vars }
-    requires flow { HasFlow (length b.old.gates) y.now }
+    requires has { HasInputs b.old inputs.now }
+    requires word_known { IsTrue (has_picks inputs.now.controls.now operand.word) }
+    requires source_known { IsTrue (has_picks inputs.now.controls.now operand.source) }
     requires free_in { operand.free < length b.old.gates }
     ensures extends { ExtendsNet b.old b.new }
-    ensures has_truth { IfOk result (λ g. IsControlGate b.new ctl.now g (λ w α cv.
-        spec.picks_right_value v s.now (fields_of w) (flow_at b.old w y.now) (spec.register_controls_of α cv) α cv (truth b.old operand.free w) operand.word operand.source operand.rest)) }
+    ensures has_truth { IfOk result (λ g. IsControlGate b.new inputs.now.controls.now g (λ w α cv.
+        at_inputs spec.picks_right_value b.old inputs.now w α cv (truth b.old operand.free w) operand.word operand.source operand.rest)) }
 {
-    let ready = takes_ready(b, ctl, v, s, y, operand)?;
-    let none = picks_leaf(b, ctl, operand.source, ExpectedLeaf::This(Leaf::Number(15)))?;
+    let ready = takes_ready(b, inputs, operand)?;
+    let none = picks_leaf(
+        b,
+        inputs.controls,
+        operand.source,
+        ExpectedLeaf::This(Leaf::Number(15)),
+    )?;
     b.or(none, ready)
 }
 
@@ -203,50 +188,32 @@ fn stores_late(b: &mut NetBuilder, v: Variant, late: bool) -> Result<u64, Memory
 
 /// Obligation 10: if a good instruction leaves D, d_valA is valP for a call and a jump, and otherwise the right value
 /// of its source.
-pub fn obligation_10(
-    b: &mut NetBuilder,
-    ctl: &Controls,
-    v: Variant,
-    s: &Settings,
-    y: &FlowGates,
-) -> Result<u64, Memory>
-    requires inside { IsInside b.old ctl.now }
-    requires vars { bit_count ≤ b.old.vars }
-    requires flow { HasFlow (length b.old.gates) y.now }
-    requires known { Covers pipe_rows ctl.now }
+pub fn obligation_10(b: &mut NetBuilder, inputs: &RuleInputs<'_>) -> Result<u64, Memory>
+    requires ready { IsRuleReady b.old inputs.now }
     ensures extends { ExtendsNet b.old b.new }
-    ensures has_truth { IfOk result (λ g. IsControlGate b.new ctl.now g (λ w α cv. spec.o10 v s.now (fields_of w) (flow_at b.old w y.now) (spec.register_controls_of α cv) α cv)) }
+    ensures has_truth { IfOk result (λ g. IsControlGate b.new inputs.now.controls.now g (at_inputs spec.o10 b.old inputs.now)) }
 {
-    let stays = none_leaves(b, ctl, y)?;
-    let next_pc = takes_next_pc(b, ctl, v)?;
-    let late = stores_late(b, v, s.lf)?;
+    let stays = none_leaves(b, inputs.controls, inputs.flow)?;
+    let next_pc = takes_next_pc(b, inputs.controls, inputs.variant)?;
+    let late = stores_late(b, inputs.variant, inputs.settings.lf)?;
     let operand = Operand {
         word: signal::D_VAL_A,
         source: signal::D_SRC_A,
         rest: signal::D_RVAL_A,
         free: late,
     };
-    let right = picks_right_value(b, ctl, v, s, y, operand)?;
+    let right = picks_right_value(b, inputs, operand)?;
     let both = b.and(next_pc, right)?;
     b.or(stays, both)
 }
 
 /// Obligation 11: if a good instruction leaves D, d_valB is the right value of its source.
-pub fn obligation_11(
-    b: &mut NetBuilder,
-    ctl: &Controls,
-    v: Variant,
-    s: &Settings,
-    y: &FlowGates,
-) -> Result<u64, Memory>
-    requires inside { IsInside b.old ctl.now }
-    requires vars { bit_count ≤ b.old.vars }
-    requires flow { HasFlow (length b.old.gates) y.now }
-    requires known { Covers pipe_rows ctl.now }
+pub fn obligation_11(b: &mut NetBuilder, inputs: &RuleInputs<'_>) -> Result<u64, Memory>
+    requires ready { IsRuleReady b.old inputs.now }
     ensures extends { ExtendsNet b.old b.new }
-    ensures has_truth { IfOk result (λ g. IsControlGate b.new ctl.now g (λ w α cv. spec.o11 v s.now (fields_of w) (flow_at b.old w y.now) (spec.register_controls_of α cv) α cv)) }
+    ensures has_truth { IfOk result (λ g. IsControlGate b.new inputs.now.controls.now g (at_inputs spec.o11 b.old inputs.now)) }
 {
-    let stays = none_leaves(b, ctl, y)?;
+    let stays = none_leaves(b, inputs.controls, inputs.flow)?;
     let never = b.constant(false)?;
     let operand = Operand {
         word: signal::D_VAL_B,
@@ -254,6 +221,6 @@ pub fn obligation_11(
         rest: signal::D_RVAL_B,
         free: never,
     };
-    let right = picks_right_value(b, ctl, v, s, y, operand)?;
+    let right = picks_right_value(b, inputs, operand)?;
     b.or(stays, right)
 }

@@ -1,4 +1,4 @@
-use Rattle.std.proofs.Common.{◌+◌, ◌∙◌, ap, if◌then◌else◌, refl}
+use Rattle.std.proofs.Common.{◌+◌, ◌∙◌, ap, if◌then◌else◌, refl, arith}
 use Rattle.nets.specs.Nets.{truth}
 use Rattle.nets.proofs.Truths.{begins_more}
 use Rattle.ctl_picks.proofs.Inside.{inside_more}
@@ -14,8 +14,17 @@ use Rattle.pipe_motion_gates.specs.Legality.{premise_when}
 use Rattle.hazard_rules.proofs.Listed.{premise_by, rule_by, rules_more, rules_pushed}
 use Rattle.hazard_rules.proofs.rules.rules_told.Goals as goal
 
-pub demand_gate-requires-clause-inside : goal.demand_gate-requires-clause-inside
-demand_gate-requires-clause-inside c = inside_more c.loop-i.invariant.begins c.requires.inside
+pub demand_gate-requires-clause-ready : goal.demand_gate-requires-clause-ready
+demand_gate-requires-clause-ready c =
+    let old = c.loop-i.invariant in
+    record {
+      has = record {
+        inside = inside_more old.begins c.requires.inside;
+        vars = let same = old.begins.vars in let fits = c.requires.vars in omega (arith, same, fits);
+        flow = old.flow.within;
+      };
+      known = c.requires.covers;
+    }
 
 pub loop-i-preserved : goal.loop-i-preserved
 unfolding demand_at is_demanded premise_when

@@ -9,7 +9,7 @@ use Rattle.pipe_motion_gates.proofs.fetch.obligation_25.Goals as goal
 
 pub returns-clause-has_truth : goal.returns-clause-has_truth
 returns-clause-has_truth c =
-    let i0 = c.requires.inside in
+    let i0 = c.requires.ready.has.inside in
     let k1 = c.fetch_good.ensures.extends in
     let i1 = inside_more k1 i0 in
     let k2 = c.fetched_facts.ensures.extends in
@@ -20,7 +20,7 @@ returns-clause-has_truth c =
       within = made.within;
       is = λ w α cv t.
           let u = tells_less k3 i2 t in
-          made.is w ∙ next_by c.args.s.now.je c.args.s.now.rm _ _ _ _ _ _ _ _ (c.register_controls_of-controls.ensures.encodes c.fetched_facts.new.b w α cv u) (good.is w α cv u) (c.in_ok-facts.ensures.has_truth.is w α cv u)
-          (flow_kept (begins_more k1 k2) c.args.y.now w c.requires.flow);
+          made.is w ∙ next_by c.args.inputs.now.settings.now.je c.args.inputs.now.settings.now.rm _ _ _ _ _ _ _ _ (c.register_controls_of-controls.ensures.encodes c.fetched_facts.new.b w α cv u) (good.is w α cv u) (c.in_ok-facts.ensures.has_truth.is w α cv u)
+          (flow_kept (begins_more k1 k2) c.args.inputs.now.flow.now w c.requires.ready.has.flow);
     })
     c.obligation_25.ensures.has_truth

@@ -12,14 +12,14 @@ use Rattle.pipe_stage_gates.proofs.sources.obligation_11.Goals as goal
 
 pub returns-clause-has_truth : goal.returns-clause-has_truth
 returns-clause-has_truth c =
-    let i0 = c.requires.inside in
+    let i0 = c.requires.ready.has.inside in
     let k1 = c.none_leaves.ensures.extends in
     let i1 = inside_more k1 i0 in
     let k2 = c.constant.ensures.extends in
     let i2 = inside_more k2 i1 in
     let k3 = c.picks_right_value.ensures.extends in
     let i3 = inside_more k3 i2 in
-    let right = asked_as c.in_ok-right.ensures.has_truth (λ w α cv. right_by c.args.v c.args.s.now (fields_of w) (spec.register_controls_of α cv) α cv signal.d_valB signal.d_srcB signal.d_rvalB _ _ _ _
-    (flow_kept (begins_more k1 k2) c.args.y.now w c.requires.flow) (c.in_ok-never.ensures.has_truth.is w)) in
+    let right = asked_as c.in_ok-right.ensures.has_truth (λ w α cv. right_by c.args.inputs.now.variant c.args.inputs.now.settings.now (fields_of w) (spec.register_controls_of α cv) α cv signal.d_valB signal.d_srcB signal.d_rvalB _ _ _ _
+    (flow_kept (begins_more k1 k2) c.args.inputs.now.flow.now w c.requires.ready.has.flow) (c.in_ok-never.ensures.has_truth.is w)) in
     IfOk-weaker c.or.result _ _ (λ _ made. asked_two (λ w x y. x || y) c.or.ensures.extends i3 (asked_more (begins_more k2 k3) i1 c.in_ok-stays.ensures.has_truth) right made)
     c.or.ensures.has_truth

@@ -10,7 +10,7 @@ use Rattle.pipe_stage_gates.proofs.sources.takes_ready.Goals as goal
 pub returns-clause-has_truth : goal.returns-clause-has_truth
 unfolding fields_of
 returns-clause-has_truth c =
-    let i0 = c.requires.inside in
+    let i0 = c.requires.has.inside in
     let k1 = c.takes_value.ensures.extends in
     let i1 = inside_more k1 i0 in
     let k2 = c.picks_leaf.ensures.extends in
@@ -18,7 +18,7 @@ returns-clause-has_truth c =
     let k3 = c.and.ensures.extends in
     let i3 = inside_more k3 i2 in
     let up = begins_more k1 k2 in
-    let good = asked_more up i0 (asked_gate (gate_there c.requires.flow.e.good)) in
+    let good = asked_more up i0 (asked_gate (gate_there c.requires.has.flow.e.good)) in
     let loaded = asked_two (λ w x y. x && y) k3 i2 good c.in_ok-loads.ensures.has_truth c.in_ok-loaded.ensures.has_truth in
     let free = asked_more (begins_more up k3) i0 (asked_gate (gate_there c.requires.free_in)) in
     let right = asked_more (begins_more k2 k3) i1 c.in_ok-right.ensures.has_truth in

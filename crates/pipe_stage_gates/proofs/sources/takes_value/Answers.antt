@@ -16,7 +16,7 @@ use Rattle.pipe_stage_gates.proofs.sources.takes_value.Goals as goal
 
 pub returns-clause-has_truth : goal.returns-clause-has_truth
 returns-clause-has_truth c =
-    let i0 = c.requires.inside in
+    let i0 = c.requires.has.inside in
     let k1 = c.from_m_on.ensures.extends in
     let i1 = inside_more k1 i0 in
     let k2 = c.late_destination_is.ensures.extends in
@@ -25,12 +25,12 @@ returns-clause-has_truth c =
     let i3 = inside_more k3 i2 in
     let k4 = c.picks_leaf.ensures.extends in
     let i4 = inside_more k4 i3 in
-    let good = asked_more (begins_more k1 k2) i0 (asked_gate (gate_there c.requires.flow.e.good)) in
+    let good = asked_more (begins_more k1 k2) i0 (asked_gate (gate_there c.requires.has.flow.e.good)) in
     let in_e = asked_two (λ w x y. x && y) k3 i2 good c.in_ok-writes.ensures.has_truth c.in_ok-in_e.ensures.has_truth in
     let older = asked_more (begins_more k2 (begins_more k3 k4)) i1 c.in_ok-older.ensures.has_truth in
     IfOk-weaker c.choose.result _ _ (λ _ made. asked_as (asked_three (λ x y z. if x then y else z) c.choose.ensures.extends i4 (asked_more k4 i3 in_e) c.in_ok-taken.ensures.has_truth older made)
     (λ w α cv. first_leaf
-    ((flow_at c.args.b.now w c.args.y.now).e.good && words.is_number cv c.args.operand.source (destination_e (row c.args.v (fields_of w).e.icode).conditional (set (fields_of w).e.cnd) (fields_of w).e.dst_e))
+    ((flow_at c.args.b.now w c.args.inputs.now.flow.now).e.good && words.is_number cv c.args.operand.source (destination_e (row c.args.inputs.now.variant (fields_of w).e.icode).conditional (set (fields_of w).e.cnd) (fields_of w).e.dst_e))
     (words.is_number cv c.args.operand.source (fields_of w).m.dst_m) (words.is_number cv c.args.operand.source (fields_of w).m.dst_e)
     (words.is_number cv c.args.operand.source (fields_of w).w.dst_m) (words.is_number cv c.args.operand.source (fields_of w).w.dst_e)
     (cv c.args.operand.word) (Name signal.e_valE) (Name signal.m_valM) (Name signal.M_valE) (Name signal.W_valM) (Name signal.W_valE) (Name c.args.operand.rest)))
