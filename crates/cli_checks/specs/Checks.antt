@@ -2,8 +2,9 @@
 use Rattle.std.specs.Prelude.{◌≡◌, ◌⊎◌, ℕ, codes, Bool, List}
 use Rattle.hcl_types.specs.declared.term.Term.{Term}
 use Rattle.y86_base.specs.declared.parts.Variant.{Variant}
-use Rattle.cli_checks.specs.Sequential.{Accepts, RefinesRun, Rejects, no_text}
+use Rattle.cli_checks.specs.Sequential.{no_text}
 use Rattle.seq_plus.specs.Datapaths.{rows_of}
+use Rattle.seq_plus_check.specs.Verdicts.{Accepts, Refines, Rejects}
 use Rattle.cli_plans.specs.Plan.{Answer, done}
 use Rattle.hcl_types.specs.declared.table.SequentialDatapath.{SequentialDatapath}
 use Rattle.cli_verdicts.specs.Verdicts.{AnswersYesPipe, RefusesControl, RefusesPipe}
@@ -13,7 +14,7 @@ use Rattle.cli_verdicts.specs.Verdicts.{AnswersYesPipe, RefusesControl, RefusesP
 -- `yes`: the design satisfies every obligation, so its machine is that of the run of instructions
 pub record AnswersYesSeq (which : SequentialDatapath) (v : Variant) (terms : List Term) (a : Answer) : Type 0 where
   pub accepted : Accepts which v terms
-  pub refines : RefinesRun which v terms
+  pub refines : Refines which v terms
   pub told : a ≡ done 0 (codes "yes\n")
 
 -- `no`: the first obligation that is false at some valuation, and the least such valuation

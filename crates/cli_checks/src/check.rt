@@ -10,7 +10,7 @@ ghost use Rattle.cli_plans.specs.PlanFollowing.{FollowsPlanOver, WritesAnswerOn}
 use crate::sequential::{decided, seq_text};
 use cli_plans::{StopReason, pipe_file, seq_file, write_answer};
 use cli_verdicts::{PipeVerdictText, control_stop, pipe_verdict};
-use control_check::CheckFault;
+use ctl_verdicts::CheckFault;
 use hcl_types::{BoundDesign, SequentialDatapath};
 use std::alloc::Global;
 use wb_io::{Files, Sink};

@@ -1,20 +1,17 @@
 //! Verdicts on designs for the sequential datapaths, and the text of a `no`.
 ghost use Rattle.std.specs.Prelude.{◌≡◌, ◌≤◌, Err, IfErr, IfOk, OnErr, length};
-ghost use Rattle.dp_signals.specs.SeqTable.{seq_rows};
 ghost use Rattle.hcl_types.specs.Tables.{IsBoundDesign};
-ghost use Rattle.seq_plus.specs.PlusTable.{plus_rows};
 ghost use Rattle.ctl_verdicts.specs.ObligationSet.{IsFault};
 ghost use Rattle.cli_checks.specs.Sequential.{IsDecided, no_text};
 ghost use Rattle.seq_plus.specs.Datapaths.{rows_of};
-ghost use Rattle.hcl_types.specs.declared.table.SequentialDatapath.TheVariants.{Seq as OnSeq, SeqPlus as OnPlus};
 ghost use Rattle.cli_plans.specs.declared.stop_reason.StopReason.TheVariants.{Memory as WantOfMemory};
 
 use cli_plans::StopReason;
-use control_check::{CheckFault, Verdict, check_seq};
 use ctl_atoms::Atom;
+use ctl_verdicts::CheckFault;
 use hcl_types::{BoundDesign, Row, SequentialDatapath};
 use nets::Valuation;
-use seq_plus_check::{Plain16, check_plus};
+use seq_plus_check::{SeqVerdict, check_seq};
 use std::alloc::Global;
 use verdict_text::{plus_refusal, seq_refusal};
 use y86_base::{Items, Memory, Variant};
@@ -28,60 +25,6 @@ pub struct SeqRejection {
     pub atoms: Items<Atom>,
 }
 
-/// The verdict on a design for SEQ; see `decided`.
-fn decide_seq(
-    alloc: Global,
-    variant: Variant,
-    bound: &BoundDesign,
-) -> Result<Option<SeqRejection>, CheckFault>
-    requires { IsBoundDesign seq_rows bound.now }
-    ensures decided { IfOk result (IsDecided OnSeq variant bound.now.ordered.design.terms) }
-    ensures fault { IfErr result (IsFault seq_rows bound.now.ordered.design.terms) }
-{
-    match check_seq(alloc, variant, &bound.ordered) {
-        Ok(Verdict::Yes(_)) => Ok(None),
-        Ok(
-            Verdict::No {
-                rule,
-                valuation,
-                atoms,
-            },
-        ) => Ok(Some(SeqRejection {
-            rule,
-            valuation,
-            atoms,
-        })),
-        Err(fault) => Err(fault),
-    }
-}
-
-/// The verdict on a design for SEQ+; see `decided`.
-fn decide_plus(
-    alloc: Global,
-    variant: Variant,
-    bound: &BoundDesign,
-) -> Result<Option<SeqRejection>, CheckFault>
-    requires { IsBoundDesign plus_rows bound.now }
-    ensures decided { IfOk result (IsDecided OnPlus variant bound.now.ordered.design.terms) }
-    ensures fault { IfErr result (IsFault plus_rows bound.now.ordered.design.terms) }
-{
-    match check_plus(alloc, variant, &bound.ordered) {
-        Ok(Plain16::Yes) => Ok(None),
-        Ok(
-            Plain16::No {
-                rule,
-                valuation,
-                atoms,
-            },
-        ) => Ok(Some(SeqRejection {
-            rule,
-            valuation,
-            atoms,
-        })),
-        Err(fault) => Err(fault),
-    }
-}
-
 /// The verdict on a design: `None` if it is accepted.
 pub fn decided(
     alloc: Global,
@@ -93,9 +36,20 @@ pub fn decided(
     ensures decided { IfOk result (IsDecided which variant bound.now.ordered.design.terms) }
     ensures fault { IfErr result (IsFault (rows_of which) bound.now.ordered.design.terms) }
 {
-    match which {
-        SequentialDatapath::Seq => decide_seq(alloc, variant, bound),
-        SequentialDatapath::SeqPlus => decide_plus(alloc, variant, bound),
+    match check_seq(alloc, which, variant, &bound.ordered) {
+        Ok(SeqVerdict::Yes) => Ok(None),
+        Ok(
+            SeqVerdict::No {
+                rule,
+                valuation,
+                atoms,
+            },
+        ) => Ok(Some(SeqRejection {
+            rule,
+            valuation,
+            atoms,
+        })),
+        Err(fault) => Err(fault),
     }
 }
 

@@ -1,4 +1,3 @@
-pub mod SeqVerdicts
 pub mod PipeVerdicts
 pub mod Accepted
 pub mod Orders

@@ -1,5 +1,5 @@
 -- Verdicts on HCL files for PIPE.
-use Rattle.std.specs.Prelude.{◌≡◌, ℕ, ◌<◌, Bool, true, List, length, get_or}
+use Rattle.std.specs.Prelude.{◌≡◌, ℕ, ◌<◌, Bool, true, false, List, length, get_or}
 use Rattle.y86_base.specs.declared.parts.Variant.{Variant}
 use Rattle.y86_isa.specs.Run.{IsImage}
 use Rattle.yis_pure_runs.specs.Near.{NearPure}
@@ -53,6 +53,10 @@ pub record RejectsPipe (v : Variant) (terms : List Term) (rule : ℕ) (w : List 
 abbrev pub IsPipeVerdict : Variant → List Term → Verdict → Type 0
 IsPipeVerdict v terms (Yes s) = AcceptsPipe v terms s
 IsPipeVerdict v terms (No rule valuation atoms) = RejectsPipe v terms rule valuation.bits × AreAtoms pipe_rows terms atoms
+
+abbrev pub is_yes : Verdict → Bool
+is_yes (Yes settings) = true
+is_yes (No rule valuation atoms) = false
 
 abbrev pub IsPipeFault : List Term → CheckFault → Type 0
 IsPipeFault terms f = IsFault pipe_rows terms f

@@ -1,5 +1,5 @@
-//! Verdicts on HCL files: whether a design meets every obligation of a datapath at every control valuation. The
-//! verdicts for SEQ and PIPE are here; `check_plus` of `seq_plus_check` is the one for SEQ+.
+//! The verdict on an HCL file for PIPE: whether a design meets every obligation at every control valuation. Those on
+//! files for SEQ and SEQ+ are in `seq_plus_check`.
 #![tactic(auto)]
 
 mod accepted;
@@ -15,4 +15,4 @@ pub use pipe_verdict::{
     FileRules, check_pipe, decide_pipe, file_rules, file_settings, rules_at_settings, rules_from,
     rules_true,
 };
-pub use verdict::{Verdict, check_seq};
+pub use verdict::Verdict;

@@ -6,8 +6,7 @@ ghost use Rattle.ctl_atoms.specs.Atoms.{AreAtoms};
 ghost use Rattle.ctl_verdicts.specs.Decisions.{HaveGatesOfNet, IsRuleDecision};
 ghost use Rattle.control_check.specs.Tails.{AreNumbered, AreTold, IsFilled};
 ghost use Rattle.bdd_decide.specs.Decisions.{AreDecided, AreGatesOfNet as AreGates, IsDecided};
-ghost use Rattle.control_check.specs.PipeVerdicts.{AreFileRules, AreSettings, HasSevenGates, IsPipeFault, IsPipeVerdict, RefinesPipe};
-ghost use Rattle.control_check.specs.SeqVerdicts.{is_yes};
+ghost use Rattle.control_check.specs.PipeVerdicts.{AreFileRules, AreSettings, HasSevenGates, IsPipeFault, IsPipeVerdict, RefinesPipe, is_yes};
 ghost use Rattle.hazard_rules.specs.Belonging.{BelongTo};
 ghost use Rattle.hazard_rules.specs.Parts.{AreRules};
 

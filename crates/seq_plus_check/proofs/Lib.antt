@@ -1,3 +1,3 @@
 pub mod PlusRows
 pub mod Runs
-pub mod PlusVerdict
+pub mod Decided

@@ -1,5 +1,6 @@
 pub mod Fields
 pub mod Obligations
+pub mod Datapaths
 pub mod Accepted
 pub mod Cycle
 pub mod Rules

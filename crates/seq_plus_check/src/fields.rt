@@ -13,7 +13,7 @@ static SPOTS: &[FieldSpec] =
 
 /// The fields of a valuation in the order of its variables, those of the line P first: their bits, and the rows of
 /// their signals in SEQ+'s table.
-pub fn spots() -> &'static [FieldSpec]
+pub(crate) fn spots() -> &'static [FieldSpec]
     ensures { result.now ≡ spec.spots }
 {
     SPOTS

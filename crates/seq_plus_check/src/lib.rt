@@ -1,13 +1,13 @@
-//! The check of an HCL file for SEQ+: its 16 obligations, their gates, and the verdict on a design. By a theorem, the
-//! machine of an accepted design runs as the instructions do.
+//! The obligations of SEQ+ and their gates, and the verdict on an HCL file for SEQ or SEQ+. By a theorem, the machine
+//! of an accepted design runs as the instructions do.
 #![tactic(auto)]
 
+mod datapath;
 mod fields;
 mod laws;
 mod rules;
 mod verdict;
 
-pub use fields::spots;
+pub use datapath::{bit_count, first_defined, signals_of, spots_of};
 pub use laws::law_of_refinement;
-pub use rules::plus_rules;
-pub use verdict::{Plain16, check_plus};
+pub use verdict::{SeqVerdict, check_seq, rules_of};

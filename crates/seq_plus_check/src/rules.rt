@@ -19,8 +19,8 @@ ghost use Rattle.seq_plus_check.specs.Rules.{ArePlusRules, IsPlusReady, places};
 
 use crate::fields::places;
 use ctl_atoms::CtlFault;
-use ctl_picks::Controls;
 use ctl_given::Place;
+use ctl_picks::Controls;
 use ctl_rules::{NextPcInputs, RowGates, Rules, by_icode, next_is};
 use hcl_types::{OrderedDesign, Table};
 use net_fields::below;
@@ -135,7 +135,7 @@ impl RuleFamily for PlusRules {
 /// The 16 rules of a design for SEQ+, in their order: each gate is its obligation at every pattern of bits of a control
 /// valuation. The fields come first, then the atoms. A design that mixes classes or has more than 64 atoms has no
 /// rules.
-pub fn plus_rules(
+pub(crate) fn plus_rules(
     alloc: Global,
     variant: Variant,
     ordered: &OrderedDesign,

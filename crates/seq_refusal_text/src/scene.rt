@@ -7,7 +7,8 @@ use explanations::{Obligation, obligation_at};
 use finding_text::{ExplainedFile, Values, first_alone, put_wrong};
 use hcl_types::{Datapath, NameId, SequentialDatapath};
 use seq_diagnosis::{Refusal, Refutation};
-use seq_requirements::{PreviousNow, bit_count, first_defined, previous_of};
+use seq_plus_check::{bit_count, first_defined};
+use seq_requirements::{PreviousNow, previous_of};
 use std::alloc::{AllocError, Global};
 
 /// The datapath, as obligations name it.

@@ -5,7 +5,7 @@ use Rattle.std.proofs.lemmas.Option.{slice_get-get_or, slice_get_within, same_So
 use Rattle.y86_base.specs.declared.parts.Variant.{Variant}
 use Rattle.nets.specs.Nets.{Gates, truth}
 use Rattle.hcl_types.proofs.Each.{each_both}
-use Rattle.hcl_types.specs.Tables.{IsBound, IsOrderOf}
+use Rattle.hcl_types.specs.Tables.{IsOrderOf}
 use Rattle.hcl_types.specs.declared.term.Term.{Term}
 use Rattle.ctl_atoms.specs.declared.leaf.Atom.{Atom}
 use Rattle.ctl_atoms.specs.Atoms.{AreAtoms}
@@ -13,36 +13,23 @@ use Rattle.ctl_atoms.proofs.Solved.{atoms_one}
 use Rattle.net_fields.specs.FieldSpecs.{total}
 use Rattle.findings.proofs.EachMet.{is_own, none_of}
 use Rattle.findings.proofs.Rising.{rise_by, rise_on}
-use Rattle.control_check.proofs.SeqVerdict as seq_verdict
 use Rattle.bdd_decide.specs.Decisions.{IsAlwaysTrue, IsLeastOf}
 use Rattle.ctl_rules.specs.declared.rules.Rule.{Rule}
-use Rattle.seq_obligations.specs.Fields.{fields_of as seq_fields_of}
 use Rattle.seq_obligations.specs.Obligations.{rule_count}
-use Rattle.seq_plus_check.proofs.PlusVerdict as plus_verdict
-use Rattle.seq_plus_check.proofs.Runs.{refines as plus_refines}
-use Rattle.seq_refinement.proofs.Refining.{refines as seq_refines}
-use Rattle.seq_plus_check.specs.Fields.{fields_of as plus_fields_of}
 use Rattle.ctl_verdicts.specs.Decisions.{HaveGatesOfNet, IsRuleDecision}
 use Rattle.ctl_verdicts.specs.ObligationSet.{AreRulesOfSet, IsFalseAtBits, MeetsObligationSet, IsRuleOfSet, ObligationSet}
 use Rattle.ctl_verdicts.specs.declared.decision.FailedRule.{FailedRule}
 use Rattle.ctl_verdicts.proofs.Answered.{verdict_by}
 use Rattle.ctl_verdicts.proofs.Decided.{no_rule}
-use Rattle.seq_requirements.specs.Datapaths.{questions_of, spots_of}
 use Rattle.seq_plus.specs.Datapaths.{rows_of}
+use Rattle.seq_plus_check.proofs.Decided.{own_rules}
+use Rattle.seq_plus_check.specs.Datapaths.{questions_of, spots_of}
+use Rattle.seq_plus_check.specs.Rules.{AreRulesOf}
 use Rattle.hcl_types.specs.declared.table.SequentialDatapath.{SequentialDatapath}
-use Rattle.hcl_types.specs.declared.table.SequentialDatapath.TheVariants.{Seq, SeqPlus}
 use Rattle.seq_diagnosis.specs.Diagnosis as diagnosis
 use Rattle.seq_diagnosis.specs.declared.refusal.Refutation.{Refutation}
-use Rattle.seq_refusals.specs.Answered.{Accepts, AreRefuted, Everywhere, IsRefutation, Refines, Rejects, is_refuted}
-use Rattle.seq_refusals.specs.Failures.{AreRulesOf, IsFailure}
-
--- the rules as those of the datapath's obligations
-own_rules : (which : SequentialDatapath) (v : Variant) (terms : List Term) (net : Gates) (list : List Rule) → AreRulesOf which v terms net list → AreRulesOfSet (questions_of which v) terms net list
-unfolding seq_fields_of plus_fields_of
-own_rules Seq v terms net list r =
-    record { atoms = r.atoms; are = r.are; vars = r.vars; count = r.count; each = λ k x e. record { number = (r.each k x e).number; within = (r.each k x e).within; is = (r.each k x e).is } }
-own_rules SeqPlus v terms net list r =
-    record { atoms = r.atoms; are = r.are; vars = r.vars; count = r.count; each = λ k x e. record { number = (r.each k x e).number; within = (r.each k x e).within; is = (r.each k x e).is } }
+use Rattle.seq_refusals.specs.Answered.{AreRefuted, Everywhere, IsRefutation, is_refuted}
+use Rattle.seq_refusals.specs.Failures.{IsFailure}
 
 -- obligation i alone
 abbrev only : ObligationSet → ℕ → ObligationSet
@@ -78,31 +65,9 @@ one_false net list k r failure at d = record {
     same : r ≡ d.1
     same = only_one d.0 d.1 (d.2).there
 
--- the machine of an accepted design runs as the instructions do
-pub refines : (which : SequentialDatapath) (v : Variant) (terms : List Term) (ids : List ℕ) → IsBound (rows_of which) terms → IsOrderOf (rows_of which) terms ids → Accepts which v terms → Refines which v terms
-refines Seq v terms ids bound ordered a = seq_refines v terms ids bound ordered a.holds
-refines SeqPlus v terms ids bound ordered a = plus_refines v terms ids bound ordered a.holds
-
 module _ (which : SequentialDatapath) (v : Variant) (terms : List Term) (net : Gates) (list : List Rule) (ids : List ℕ) (ordered : IsOrderOf (rows_of which) terms ids) (rules : AreRulesOf which v terms net list) where
-  pub accepts : IsRuleDecision net list None → Accepts which v terms
-  accepts d = by which ordered rules
-    where
-      by : (p : SequentialDatapath) → IsOrderOf (rows_of p) terms ids → AreRulesOf p v terms net list → Accepts p v terms
-      by Seq o r = seq_verdict.accepts v terms net list ids o r d
-      by SeqPlus o r = plus_verdict.accepts v terms net list ids o r d
-
-  pub rejects : (failure : FailedRule) → IsRuleDecision net list (Some failure) → Rejects which v terms failure.rule failure.valuation.bits
-  rejects failure d = by which ordered rules
-    where
-      by : (p : SequentialDatapath) → IsOrderOf (rows_of p) terms ids → AreRulesOf p v terms net list → Rejects p v terms failure.rule failure.valuation.bits
-      by Seq o r = seq_verdict.rejects v terms net list ids o r failure d
-      by SeqPlus o r = plus_verdict.rejects v terms net list ids o r failure d
-
   abbrev own : AreRulesOfSet (questions_of which v) terms net list
   own = own_rules which v terms net list rules
-
-  pub gates_of : HaveGatesOfNet net list
-  gates_of = λ k r at. (own.each k r at).within
 
   pub count_is : length list ≡ rule_count
   count_is = own.count

@@ -13,40 +13,17 @@ use Rattle.ctl_equations.specs.Controls.{AreControls}
 use Rattle.net_fields.specs.FieldSpecs.{InRange, number_among, total}
 use Rattle.bdd_decide.specs.Decisions.{IsLeastOf}
 use Rattle.seq_obligations.specs.Obligations.{rule_count}
-use Rattle.seq_refinement.specs.Accepted.{RefinesSeq}
-use Rattle.seq_plus_check.specs.Accepted.{RefinesPlus}
-use Rattle.seq_plus_check.specs.Verdicts.{AcceptsPlus, RejectsPlus}
-use Rattle.control_check.specs.SeqVerdicts.{AcceptsSeq, RejectsSeq}
 use Rattle.ctl_verdicts.specs.ObligationSet.{IsFalseAtBits}
-use Rattle.seq_requirements.specs.Datapaths.{questions_of, spots_of}
 use Rattle.seq_plus.specs.Datapaths.{rows_of}
+use Rattle.seq_plus_check.specs.Datapaths.{questions_of, spots_of}
+use Rattle.seq_plus_check.specs.Verdicts.{Accepts, Rejects}
 use Rattle.hcl_types.specs.declared.table.SequentialDatapath.{SequentialDatapath}
-use Rattle.hcl_types.specs.declared.table.SequentialDatapath.TheVariants.{Seq, SeqPlus}
 use Rattle.findings.specs.Rising.{RiseWithin}
 use Rattle.seq_diagnosis.specs.Diagnosis.{IsDiagnosis}
 use Rattle.seq_diagnosis.specs.declared.refusal.Refusal.{Refusal}
 use Rattle.seq_diagnosis.specs.declared.refusal.Refutation.{Refutation}
 use Rattle.seq_refusals.specs.declared.answer.SeqAnswer.{SeqAnswer}
 use Rattle.seq_refusals.specs.declared.answer.SeqAnswer.TheVariants.{Yes, No}
-
--- ---- what `check seq` and `check seqplus` say
-
--- the design has control values, and meets every obligation
-abbrev pub Accepts : SequentialDatapath → Variant → List Term → Type 0
-Accepts Seq v terms = AcceptsSeq v terms
-Accepts SeqPlus v terms = AcceptsPlus v terms
-
--- the first obligation that is false at some valuation, and the least such valuation
-abbrev pub Rejects : SequentialDatapath → Variant → List Term → ℕ → List Bool → Type 0
-Rejects Seq v terms i w = RejectsSeq v terms i w
-Rejects SeqPlus v terms i w = RejectsPlus v terms i w
-
--- on every image and for every number of cycles, its machine is that of the run of instructions
-abbrev pub Refines : SequentialDatapath → Variant → List Term → Type 0
-Refines Seq v terms = RefinesSeq v terms
-Refines SeqPlus v terms = RefinesPlus v terms
-
--- ---- all obligations that are false somewhere
 
 -- obligation i holds at every valuation
 abbrev pub Everywhere : SequentialDatapath → Variant → List Term → ℕ → Type 0

@@ -1,21 +1,21 @@
 //! The verdict, and the diagnosis of a refusal.
 ghost use Rattle.std.specs.Prelude.{◌≡◌, ◌≤◌, ◌<◌, ◌+◌, ◌∷◌, [], IfErr, IfOk, OnOk, Some, length, slice_get, true};
 ghost use Rattle.hcl_types.specs.Tables.{IsBound, IsOrderOf};
-ghost use Rattle.ctl_atoms.specs.Atoms.{AreAtoms, IsCtlFault};
+ghost use Rattle.ctl_atoms.specs.Atoms.{AreAtoms};
 ghost use Rattle.seq_plus.specs.Datapaths.{rows_of};
+ghost use Rattle.seq_plus_check.specs.Rules.{AreRulesOf};
+ghost use Rattle.seq_plus_check.specs.Verdicts.{Refines};
 ghost use Rattle.ctl_verdicts.specs.Decisions.{IsRuleDecision};
 ghost use Rattle.ctl_verdicts.specs.ObligationSet.{IsFault};
 ghost use Rattle.seq_refusals.specs.Answered as spec;
-ghost use Rattle.seq_refusals.specs.Failures.{AreRulesOf, IsFailure};
+ghost use Rattle.seq_refusals.specs.Failures.{IsFailure};
 
-use control_check::{CheckFault, FailedRule, check_fault, decide};
-use ctl_atoms::CtlFault;
 use ctl_rules::{Rule, Rules};
+use ctl_verdicts::{CheckFault, FailedRule, check_fault, decide};
 use hcl_types::{OrderedDesign, SequentialDatapath};
 use nets::Net;
 use seq_diagnosis::{Refusal, Refutation, SeqFile, diagnose};
-use seq_obligations::seq_rules;
-use seq_plus_check::plus_rules;
+use seq_plus_check::rules_of;
 use std::alloc::Global;
 use y86_base::{Items, Memory, Variant, push};
 
@@ -24,24 +24,6 @@ use y86_base::{Items, Memory, Variant, push};
 pub enum SeqAnswer {
     Yes,
     No(Refusal),
-}
-
-fn rules_of(
-    alloc: Global,
-    which: SequentialDatapath,
-    v: Variant,
-    ordered: &OrderedDesign,
-) -> Result<Rules, CtlFault>
-    requires bound { IsBound (rows_of which) ordered.now.design.terms }
-    requires ordered { IsOrderOf (rows_of which) ordered.now.design.terms ordered.now.order.ids }
-    ensures rules { IfOk result (λ r. AreRulesOf which v ordered.now.design.terms r.net r.list) }
-    ensures atoms { IfOk result (λ r. AreAtoms (rows_of which) ordered.now.design.terms r.atoms) }
-    ensures fault { IfErr result (IsCtlFault (rows_of which) ordered.now.design.terms) }
-{
-    match which {
-        SequentialDatapath::Seq => seq_rules(alloc, v, ordered),
-        SequentialDatapath::SeqPlus => plus_rules(alloc, v, ordered),
-    }
 }
 
 /// `None` if a rule is true at every valuation, else the least valuation at which it is false.
@@ -165,9 +147,8 @@ fn refuse(
     })
 }
 
-/// The verdict on a file for SEQ or SEQ+, and the diagnosis of a refusal. The verdict is that of `check_seq` or
-/// `check_plus`: if it is yes, the file's machine runs as the instructions do, on every image, for every number of
-/// cycles.
+/// The verdict on a file for SEQ or SEQ+, and the diagnosis of a refusal. The verdict is that of `check_seq`: if it is
+/// yes, the file's machine runs as the instructions do, on every image, for every number of cycles.
 pub fn diagnose_seq(
     alloc: Global,
     which: SequentialDatapath,
@@ -177,7 +158,7 @@ pub fn diagnose_seq(
     requires bound { IsBound (rows_of which) ordered.now.design.terms }
     requires ordered { IsOrderOf (rows_of which) ordered.now.design.terms ordered.now.order.ids }
     ensures answer { IfOk result (spec.IsAnswer which v ordered.now.design.terms) }
-    ensures refines { IfOk result (λ answer. spec.is_yes answer ≡ true → spec.Refines which v ordered.now.design.terms) }
+    ensures refines { IfOk result (λ answer. spec.is_yes answer ≡ true → Refines which v ordered.now.design.terms) }
     ensures fault { IfErr result (IsFault (rows_of which) ordered.now.design.terms) }
 {
     let rules = match rules_of(alloc, which, v, ordered) {

@@ -1,3 +1,2 @@
-pub mod Datapaths
 pub mod Lines
 pub mod Requirements

@@ -4,12 +4,10 @@
 //! For example obligation 6 requires `dstE` to be the register that the instruction writes, and none for a move whose condition fails.
 #![tactic(auto)]
 
-mod datapath;
 mod laws;
 mod lines;
 mod listing;
 
-pub use datapath::{bit_count, first_defined, signals_of, spots_of};
 pub use laws::law_of_requirements;
 pub use lines::{LineNow, PreviousNow, line_of, previous_of};
 pub use listing::requirements_of;

@@ -2,11 +2,10 @@
 ghost use Rattle.std.specs.Prelude.{◌≡◌, ◌++◌, ◌∷◌, [], IfOk, OnOk, if◌then◌else◌};
 ghost use Rattle.net_fields.specs.FieldSpecs.{decoded};
 ghost use Rattle.ctl_rules.specs.ColumnDemands.{next_leaf as spec_next_leaf};
-ghost use Rattle.seq_requirements.specs.Datapaths.{spots_of};
+ghost use Rattle.seq_plus_check.specs.Datapaths.{spots_of};
 ghost use Rattle.seq_requirements.specs.Lines.{fields_in};
 ghost use Rattle.seq_requirements.specs.Requirements as spec;
 
-use crate::datapath::signals_of;
 use crate::lines::{LineNow, line_of, previous_of};
 use ctl_atoms::Leaf;
 use ctl_rules::{address_leaf, operand_leaf_a, operand_leaf_b, word_leaf};
@@ -18,6 +17,7 @@ use findings::{
 use hcl_types::{NameId, SequentialDatapath};
 use seq_obligations::RULE_COUNT;
 use seq_plus::row::{self as plus_row, PLUS};
+use seq_plus_check::signals_of;
 use std::alloc::Global;
 use y86_base::{Memory, Variant};
 use y86_isa::{NextPcColumn, Row, has_operand_a, is_load, is_store, row};

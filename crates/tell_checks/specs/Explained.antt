@@ -6,6 +6,7 @@ use Rattle.control_check.specs.PipeVerdicts.{RefinesPipe}
 use Rattle.pipe_refusals.specs.Answered.{IsAnswer, is_yes}
 use Rattle.pipe_refusals.specs.declared.answer.PipeAnswer.{PipeAnswer}
 use Rattle.hcl_types.specs.declared.table.SequentialDatapath.{SequentialDatapath}
+use Rattle.seq_plus_check.specs.Verdicts.{Refines}
 use Rattle.seq_refusals.specs.Answered as seq
 use Rattle.seq_refusals.specs.declared.answer.SeqAnswer as seq_answer
 
@@ -18,4 +19,4 @@ pub record Answers (v : Variant) (terms : List Term) (answer : PipeAnswer) : Typ
 -- the same for a design for SEQ or SEQ+
 pub record SeqAnswers (which : SequentialDatapath) (v : Variant) (terms : List Term) (answer : seq_answer.SeqAnswer) : Type 0 where
   pub is : seq.IsAnswer which v terms answer
-  pub refines : seq.is_yes answer ≡ true → seq.Refines which v terms
+  pub refines : seq.is_yes answer ≡ true → Refines which v terms

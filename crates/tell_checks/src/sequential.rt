@@ -1,8 +1,9 @@
 //! `check seq` and `check seqplus`: the verdict on a design for SEQ or SEQ+, explained.
 ghost use Rattle.std.specs.Prelude.{◌≡◌, ◌↔◌, IfOk, true};
 ghost use Rattle.hcl_types.specs.Tables.{IsBoundDesign};
-ghost use Rattle.seq_refusals.specs.Answered.{Refines, is_yes};
 ghost use Rattle.seq_plus.specs.Datapaths.{rows_of};
+ghost use Rattle.seq_plus_check.specs.Verdicts.{Refines};
+ghost use Rattle.seq_refusals.specs.Answered.{is_yes};
 ghost use Rattle.tell_checks.specs.Explained.{SeqAnswers};
 
 use crate::yes::put_yes_facts;

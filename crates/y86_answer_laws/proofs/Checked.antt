@@ -17,18 +17,17 @@ use Rattle.verdict_text.specs.PipeLines.{pipe_no, pipe_yes}
 use Rattle.y86_base.specs.declared.parts.Variant.{Variant}
 use Rattle.cli_checks.specs.Checks.{AnswersNoSeq, PipeChecks, SeqChecks}
 use Rattle.cli_verdicts.specs.Verdicts.{AnswersYesPipe, AnswersNoPipe, RefusesControl, RefusesPipe}
-use Rattle.cli_checks.specs.Sequential.{Accepts, Rejects, no_text, questions_of}
+use Rattle.cli_checks.specs.Sequential.{no_text}
 use Rattle.seq_plus.specs.Datapaths.{rows_of}
+use Rattle.seq_plus_check.specs.Datapaths.{questions_of}
+use Rattle.seq_plus_check.specs.Verdicts.{Accepts, Rejects}
 use Rattle.cli_plans.specs.Lines.{blank_names, names_at, names_line}
 use Rattle.cli_plans.specs.Plan.{Answer, done, refused}
 use Rattle.hcl_types.specs.declared.table.SequentialDatapath.{SequentialDatapath}
-use Rattle.hcl_types.specs.declared.table.SequentialDatapath.TheVariants.{Seq, SeqPlus}
 use Rattle.hcl_order.proofs.Members.{le_or}
 use Rattle.ctl_atoms.specs.Atoms.{AreAtoms}
 use Rattle.hcl_laws.proofs.Atoms.{mixed_has_no_atoms, mixed_is_not_over, one_list, one_mixed, over_has_no_atoms}
 use Rattle.y86_answer_laws.proofs.Least.{least_false_one, least_one}
-use Rattle.y86_answer_laws.proofs.PlusFails.{plus_not_both}
-use Rattle.y86_answer_laws.proofs.SeqFails.{seq_not_both}
 use Rattle.std.proofs.Common.{◌<◌, arith, length, codes, ◌+◌, ◌∷◌, []}
 
 -- ---- a design without control values
@@ -48,12 +47,10 @@ module _ (name : List ℕ) (rows : List Row) (terms : List Term) (ids : List ℕ
 -- ---- SEQ and SEQ+
 
 accepted_atoms : (which : SequentialDatapath) (v : Variant) (terms : List Term) → Accepts which v terms → (atoms : List Atom) × AreAtoms (rows_of which) terms atoms
-accepted_atoms Seq v terms h = (h.atoms, h.are)
-accepted_atoms SeqPlus v terms h = (h.atoms, h.are)
+accepted_atoms which v terms h = (h.atoms, h.are)
 
 not_both : (which : SequentialDatapath) (v : Variant) (terms : List Term) (rule : ℕ) (w : List Bool) → Accepts which v terms → Rejects which v terms rule w → ⊥
-not_both Seq v terms rule w h k = seq_not_both v terms k.atoms rule w k.least.from_one k.least.to_last k.least.least.holds h.holds
-not_both SeqPlus v terms rule w h k = plus_not_both v terms k.atoms rule w k.least.from_one k.least.to_last k.least.least.holds h.holds
+not_both which v terms rule w h k = k.refused h.holds
 
 module _ (which : SequentialDatapath) (name : List ℕ) (v : Variant) (terms : List Term) (ids : List ℕ) (ordered : IsOrderOf (rows_of which) terms ids) where
   denied_one : (a b : Answer) → AnswersNoSeq which v terms a → AnswersNoSeq which v terms b → a ≡ b

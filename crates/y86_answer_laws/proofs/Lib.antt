@@ -1,8 +1,6 @@
 pub mod Plans
 pub mod Least
 pub mod Designs
-pub mod SeqFails
-pub mod PlusFails
 pub mod Checked
 pub mod Runs
 pub mod Sampled

@@ -18,8 +18,8 @@ use Rattle.yo_object.specs.ObjectText.{object_of}
 use Rattle.cli_plans.specs.Stages.{run_status}
 use Rattle.cli_obligations.specs.Certified.{HasCertified}
 use Rattle.cli_verdicts.specs.Verdicts.{AnswersNoPipe}
-use Rattle.cli_checks.specs.Sequential.{Accepts, RefinesRun}
 use Rattle.seq_plus.specs.Datapaths.{rows_of}
+use Rattle.seq_plus_check.specs.Verdicts.{Accepts, Refines}
 use Rattle.cli_plans.specs.Designs.{IsDesign}
 use Rattle.cli_plans.specs.PlanFollowing.{SinkState}
 use Rattle.cli_plans.specs.Plan.{Answer}
@@ -47,7 +47,7 @@ pub record HasAcceptedSeq (which : SequentialDatapath) (v : Variant) (told : Opt
   pub terms : List Term
   pub design : IsDesign (rows_of which) text terms
   pub accepted : Accepts which v terms
-  pub refines : RefinesRun which v terms
+  pub refines : Refines which v terms
 
 -- An accepted file, whose settings were printed: the text on standard output is the line of a `yes`.
 pub record ToldAccepted (v : Variant) (told : Option (Option (List ℕ))) (before after : SinkState) : Type 0 where

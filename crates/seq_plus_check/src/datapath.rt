@@ -1,8 +1,9 @@
 //! The sequential datapaths: the fields of their valuations, and the rows of their signals.
 ghost use Rattle.std.specs.Prelude.{◌≡◌};
 ghost use Rattle.net_fields.specs.FieldSpecs.{total};
-ghost use Rattle.seq_requirements.specs.Datapaths as spec;
+ghost use Rattle.seq_plus_check.specs.Datapaths as spec;
 
+use crate::fields::spots;
 use dp_signals::{SEQ, SignalRows, seq_row};
 use hcl_types::{NameId, SequentialDatapath};
 use net_fields::FieldSpec;
@@ -39,7 +40,7 @@ pub fn spots_of(which: SequentialDatapath) -> &'static [FieldSpec]
 {
     match which {
         SequentialDatapath::Seq => seq_obligations::spots(),
-        SequentialDatapath::SeqPlus => seq_plus_check::spots(),
+        SequentialDatapath::SeqPlus => spots(),
     }
 }
 
