@@ -109,13 +109,31 @@ FollowsPlan (reads name limit next) files_before files_after before after result
 FollowsPlan (value_in {A} P E next) files_before files_after before after result =
     ((x : A) × P x × FollowsPlan (next x) files_before files_after before after result) ⊎ (WritesAnswer E before after result × NoReadFailed files_before files_after)
 
--- ---- for any files and any sink, by what is known of them, what was written, and the counts of failures
+-- ---- for any files and any sinks, by what is known of the files, what was written, and the counts of failures
+
+-- a relation of the files before and after
+abbrev pub OnFiles : {F : Type 0} {A : Type 1} → (F → List ℕ → Option (Option (List ℕ))) → (F → List ℕ → ℕ) → (FilesState → FilesState → A) → F → F → A
+OnFiles told faults R before after = R (files_state (told before) (faults before)) (files_state (told after) (faults after))
+
+-- a relation of a sink before and after
+abbrev pub OnSink : {O : Type 0} {A : Type 1} → (O → Option (List ℕ)) → (O → ℕ) → (SinkState → SinkState → A) → O → O → A
+OnSink taken faults R before after = R (sink_state (taken before) (faults before)) (sink_state (taken after) (faults after))
+
+-- a relation of the files and a sink before and after
+abbrev pub OnFilesAndSink : {F O : Type 0} {A : Type 1} → (F → List ℕ → Option (Option (List ℕ))) → (F → List ℕ → ℕ) → (O → Option (List ℕ)) → (O → ℕ) →
+    (FilesState → FilesState → SinkState → SinkState → A) → F → F → O → O → A
+OnFilesAndSink told reads_failed taken faults R files_before files_after = OnSink taken faults (OnFiles told reads_failed R files_before files_after)
+
+-- a relation of the files, standard output and standard error before and after
+abbrev pub OnCall : {F O E : Type 0} {A : Type 1} → (F → List ℕ → Option (Option (List ℕ))) → (F → List ℕ → ℕ) → (O → Option (List ℕ)) → (O → ℕ) →
+    (E → Option (List ℕ)) → (E → ℕ) → (FilesState → FilesState → SinkState → SinkState → SinkState → SinkState → A) → F → F → O → O → E → E → A
+OnCall told reads_failed taken faults err_taken err_faults R files_before files_after out_before out_after =
+    OnSink err_taken err_faults (OnFilesAndSink told reads_failed taken faults R files_before files_after out_before out_after)
 
 abbrev pub WritesAnswerOn : {O : Type 0} → (O → Option (List ℕ)) → (O → ℕ) → (Answer → Type 0) → O → O → Result ℕ code.StopReason → Type 0
-WritesAnswerOn taken faults P before after result = WritesAnswer P (sink_state (taken before) (faults before)) (sink_state (taken after) (faults after)) result
+WritesAnswerOn taken faults P before after result = OnSink taken faults (WritesAnswer P) before after result
 
 abbrev pub FollowsPlanOver : {F O : Type 0} → (F → List ℕ → Option (Option (List ℕ))) → (F → List ℕ → ℕ) → (O → Option (List ℕ)) → (O → ℕ) →
     Plan → F → F → O → O → Result ℕ code.StopReason → Type 0
 FollowsPlanOver told reads_failed taken faults plan files_before files_after before after result =
-    FollowsPlan plan (files_state (told files_before) (reads_failed files_before)) (files_state (told files_after) (reads_failed files_after))
-    (sink_state (taken before) (faults before)) (sink_state (taken after) (faults after)) result
+    OnFilesAndSink told reads_failed taken faults (FollowsPlan plan) files_before files_after before after result

@@ -3,7 +3,7 @@ ghost use Rattle.std.specs.Prelude.{◌≡◌, ◌⊎◌, ◌↔◌, ◌≢◌, 
 ghost use Rattle.std.specs.IoError.{error_kind};
 ghost use Rattle.std.specs.Vec.Iter.{into_iter_items};
 ghost use Rattle.cli_plans.specs.Calls.{WroteError};
-ghost use Rattle.cli_plans.specs.PlanFollowing.{sink_state};
+ghost use Rattle.cli_plans.specs.PlanFollowing.{OnSink};
 ghost use Rattle.cli_plans.specs.Stops.{line_of, status_of};
 ghost use Rattle.cli_plans.specs.declared.stop_reason.StopReason.TheVariants.{Memory, Usage};
 
@@ -53,7 +53,7 @@ pub fn unreadable(error: &io::Error) -> StopReason<'static>
 #[tactic(auto, using(crate::proofs::Told::told_whole, crate::proofs::Told::told_part))]
 pub fn report_stop<E: Sink>(stop: &StopReason<'_>, err: &mut E) -> Status
     ensures status { result ≡ status_of stop.now }
-    ensures line { WroteError (sink_state (E.taken err.old) (E.faults err.old)) (sink_state (E.taken err.new) (E.faults err.new)) (line_of stop.now) }
+    ensures line { OnSink E.taken E.faults WroteError err.old err.new (line_of stop.now) }
     ensures nothing_for_a_write { status_of stop.now ≡ 4 → err.new ≡ err.old }
 {
     match stop.put(err) {

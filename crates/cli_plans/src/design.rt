@@ -7,7 +7,7 @@ ghost use Rattle.hcl_binding.specs.declared.fault.BindWhy.TheVariants.{Memory as
 ghost use Rattle.cli_plans.specs.Stages.{hcl_limit};
 ghost use Rattle.seq_plus.specs.Datapaths.{rows_of};
 ghost use Rattle.cli_plans.specs.Designs.{IsDesign, RefusesDesign};
-ghost use Rattle.cli_plans.specs.PlanFollowing.{IsStageResultIn, IsReadResultIn, RefusesWith, files_state};
+ghost use Rattle.cli_plans.specs.PlanFollowing.{IsStageResultIn, IsReadResultIn, OnFiles, RefusesWith};
 ghost use Rattle.cli_plans.specs.Lines as text;
 ghost use Rattle.cli_plans.specs.Plan.{refused};
 
@@ -183,8 +183,8 @@ pub fn seq_file<'a, F: Files>(
     name: &'a str,
     files: &mut F,
 ) -> Result<BoundDesign, StopReason<'a>>
-    ensures design { IsReadResultIn name.now hcl_limit (IsDesign (rows_of which)) (RefusesDesign name.now (rows_of which)) (λ bound. bound.ordered.design.terms)
-        (files_state (F.told files.old) (F.faults files.old)) (files_state (F.told files.new) (F.faults files.new)) result }
+    ensures design { OnFiles F.told F.faults (IsReadResultIn name.now hcl_limit (IsDesign (rows_of which)) (RefusesDesign name.now (rows_of which)) (λ bound. bound.ordered.design.terms))
+        files.old files.new result }
     ensures ordered { IfOk result (IsBoundDesign (rows_of which)) }
 {
     match read_file(alloc, name, HCL_LIMIT, files) {
@@ -199,8 +199,8 @@ pub fn pipe_file<'a, F: Files>(
     name: &'a str,
     files: &mut F,
 ) -> Result<BoundDesign, StopReason<'a>>
-    ensures design { IsReadResultIn name.now hcl_limit (IsDesign pipe_rows) (RefusesDesign name.now pipe_rows) (λ bound. bound.ordered.design.terms)
-        (files_state (F.told files.old) (F.faults files.old)) (files_state (F.told files.new) (F.faults files.new)) result }
+    ensures design { OnFiles F.told F.faults (IsReadResultIn name.now hcl_limit (IsDesign pipe_rows) (RefusesDesign name.now pipe_rows) (λ bound. bound.ordered.design.terms))
+        files.old files.new result }
     ensures ordered { IfOk result (IsBoundDesign pipe_rows) }
 {
     match read_file(alloc, name, HCL_LIMIT, files) {

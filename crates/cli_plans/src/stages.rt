@@ -6,7 +6,7 @@ ghost use Rattle.wb_io.specs.Files.{HasBytes};
 ghost use Rattle.y86_base.specs.Image.{IsSize};
 ghost use Rattle.cli_plans.specs.Stages.{image_of_text, run_status};
 ghost use Rattle.cli_plans.specs.Designs.{RefusesHcl};
-ghost use Rattle.cli_plans.specs.PlanFollowing.{IsStageResult, IsStageResultIn, IsLater, StopsAtRead, files_state};
+ghost use Rattle.cli_plans.specs.PlanFollowing.{IsStageResult, IsStageResultIn, IsLater, OnFiles, StopsAtRead};
 ghost use Rattle.cli_plans.specs.Lines.{hcl_reason, object_reason};
 ghost use Rattle.yo_object.specs.ObjectText.{object_of};
 
@@ -31,10 +31,9 @@ pub fn read_file<'a, F: Files>(
     limit: u64,
     files: &mut F,
 ) -> Result<Vec<u8>, StopReason<'a>>
-    ensures later { IfOk result (λ bytes. IsLater (files_state (F.told files.old) (F.faults files.old)) (files_state (F.told files.new) (F.faults files.new))) }
+    ensures later { IfOk result (λ bytes. OnFiles F.told F.faults IsLater files.old files.new) }
     ensures bytes { IfOk result (λ bytes. (length bytes.items ≤ limit) × HasBytes (F.told files.old name.now) bytes.items) }
-    ensures stops { IfErr result (λ stop. StopsAtRead name.now limit
-        (files_state (F.told files.old) (F.faults files.old)) (files_state (F.told files.new) (F.faults files.new)) stop) }
+    ensures stops { IfErr result (λ stop. OnFiles F.told F.faults (StopsAtRead name.now limit) files.old files.new stop) }
 {
     match files.read(alloc, name, limit) {
         Ok(bytes) => Ok(bytes),

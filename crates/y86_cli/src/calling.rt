@@ -2,7 +2,7 @@
 ghost use Rattle.std.specs.Prelude.{◌≡◌, ◌↔◌, None, IfErr, IfOk};
 ghost use Rattle.std.specs.IoError.{error_kind};
 ghost use Rattle.cli_plans.specs.Calls.{words_behind};
-ghost use Rattle.cli_plans.specs.PlanFollowing.{files_state, sink_state};
+ghost use Rattle.cli_plans.specs.PlanFollowing.{OnCall};
 ghost use Rattle.y86_cli.specs.CallContract.{CallContract};
 ghost use Rattle.y86_words.specs.Forms.{form_of};
 
@@ -24,13 +24,11 @@ pub fn call<F: Files, O: Sink, E: Sink>(
     out: &mut O,
     err: &mut E,
 ) -> Status
-    ensures ran { IfOk args (λ read. CallContract (form_of (words_behind read)) (files_state (F.told files.old) (F.faults files.old)) (files_state (F.told files.new) (F.faults files.new))
-        (sink_state (O.taken out.old) (O.faults out.old)) (sink_state (O.taken out.new) (O.faults out.new))
-        (sink_state (E.taken err.old) (E.faults err.old)) (sink_state (E.taken err.new) (E.faults err.new)) result) }
+    ensures ran { IfOk args (λ read. OnCall F.told F.faults O.taken O.faults E.taken E.faults (CallContract (form_of (words_behind read)))
+        files.old files.new out.old out.new err.old err.new result) }
     // Words that can't be read form no command.
-    ensures unread { IfErr args (λ error. CallContract None (files_state (F.told files.old) (F.faults files.old)) (files_state (F.told files.new) (F.faults files.new))
-        (sink_state (O.taken out.old) (O.faults out.old)) (sink_state (O.taken out.new) (O.faults out.new))
-        (sink_state (E.taken err.old) (E.faults err.old)) (sink_state (E.taken err.new) (E.faults err.new)) result) }
+    ensures unread { IfErr args (λ error. OnCall F.told F.faults O.taken O.faults E.taken E.faults (CallContract None)
+        files.old files.new out.old out.new err.old err.new result) }
     ensures unread_memory { IfErr args (λ error. (result ≡ 6) ↔ (error_kind error ≡ ErrorKind.OutOfMemory)) }
 {
     let args = match args {

@@ -1,6 +1,6 @@
 //! The top call: does the command that the words form, and returns the status.
 ghost use Rattle.std.specs.Prelude.{◌≡◌, None, map, string_bytes};
-ghost use Rattle.cli_plans.specs.PlanFollowing.{FollowsPlanOver, files_state, sink_state};
+ghost use Rattle.cli_plans.specs.PlanFollowing.{FollowsPlanOver, OnCall, OnFilesAndSink};
 ghost use Rattle.y86_cli.specs.Answers.{plan_of};
 ghost use Rattle.y86_cli.specs.CallContract.{CommandOutcome, CallContract};
 ghost use Rattle.y86_words.specs.Forms.{form_of};
@@ -144,9 +144,8 @@ fn outcome<'a, F: Files, O: Sink>(
     files: &mut F,
     out: &mut O,
 ) -> Result<Status, StopReason<'a>>
-    ensures { CommandOutcome (form_of (map string_bytes command_words.now))
-        (files_state (F.told files.old) (F.faults files.old)) (files_state (F.told files.new) (F.faults files.new))
-        (sink_state (O.taken out.old) (O.faults out.old)) (sink_state (O.taken out.new) (O.faults out.new)) result }
+    ensures { OnFilesAndSink F.told F.faults O.taken O.faults (CommandOutcome (form_of (map string_bytes command_words.now)))
+        files.old files.new out.old out.new result }
 {
     match words(command_words) {
         Err(Usage) => Err(StopReason::Usage),
@@ -164,10 +163,8 @@ pub fn run<F: Files, O: Sink, E: Sink>(
     out: &mut O,
     err: &mut E,
 ) -> Status
-    ensures ran { CallContract (form_of (map string_bytes words.now))
-        (files_state (F.told files.old) (F.faults files.old)) (files_state (F.told files.new) (F.faults files.new))
-        (sink_state (O.taken out.old) (O.faults out.old)) (sink_state (O.taken out.new) (O.faults out.new))
-        (sink_state (E.taken err.old) (E.faults err.old)) (sink_state (E.taken err.new) (E.faults err.new)) result }
+    ensures ran { OnCall F.told F.faults O.taken O.faults E.taken E.faults (CallContract (form_of (map string_bytes words.now)))
+        files.old files.new out.old out.new err.old err.new result }
     // The status is 2 whenever the words form no command.
     ensures usage { form_of (map string_bytes words.now) ≡ None → result ≡ 2 }
 {

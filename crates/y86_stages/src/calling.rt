@@ -3,7 +3,7 @@ ghost use Rattle.std.specs.Prelude.{◌≡◌, ◌≤◌, ◌↔◌, IfErr, IfOk
 ghost use Rattle.std.specs.IoError.{error_kind};
 ghost use Rattle.std.specs.Option.{option_map};
 ghost use Rattle.y86_base.specs.Image.{IsSize};
-ghost use Rattle.cli_plans.specs.PlanFollowing.{files_state, sink_state};
+ghost use Rattle.cli_plans.specs.PlanFollowing.{OnCall, OnFilesAndSink, OnSink};
 ghost use Rattle.cli_plans.specs.Calls.{WroteError, words_behind};
 ghost use Rattle.cli_plans.specs.Stops.{status_of};
 ghost use Rattle.y86_words.specs.Forms.{form_of};
@@ -79,9 +79,8 @@ fn show_words<'a, F: Files, O: Sink>(
     files: &mut F,
     out: &mut O,
 ) -> Result<Status, StopReason<'a>>
-    ensures { ShowOutcome processor (spec.request_of (form_of (map string_bytes psim_words.now))) window.now
-        (files_state (F.told files.old) (F.faults files.old)) (files_state (F.told files.new) (F.faults files.new))
-        (sink_state (O.taken out.old) (O.faults out.old)) (sink_state (O.taken out.new) (O.faults out.new)) result }
+    ensures { OnFilesAndSink F.told F.faults O.taken O.faults (ShowOutcome processor (spec.request_of (form_of (map string_bytes psim_words.now))) window.now)
+        files.old files.new out.old out.new result }
 {
     let command = match words(psim_words) {
         Ok(command) => command,
@@ -104,7 +103,7 @@ fn show_words<'a, F: Files, O: Sink>(
 #[tactic(auto, using(cli_plans::proofs::Told::told_whole, cli_plans::proofs::Told::told_part))]
 fn tell_stop<E: Sink>(stop: &StopReason<'_>, err: &mut E) -> Status
     ensures status { result ≡ status_of stop.now }
-    ensures line { WroteError (sink_state (E.taken err.old) (E.faults err.old)) (sink_state (E.taken err.new) (E.faults err.new)) (spec.stop_line stop.now) }
+    ensures line { OnSink E.taken E.faults WroteError err.old err.new (spec.stop_line stop.now) }
     ensures nothing_for_a_write { status_of stop.now ≡ 4 → err.new ≡ err.old }
 {
     match stop {
@@ -131,9 +130,8 @@ pub fn run<F: Files, O: Sink, E: Sink>(
     out: &mut O,
     err: &mut E,
 ) -> Status
-    ensures { ShowContract (read_of (map string_bytes own_words.now)) (files_state (F.told files.old) (F.faults files.old)) (files_state (F.told files.new) (F.faults files.new))
-        (sink_state (O.taken out.old) (O.faults out.old)) (sink_state (O.taken out.new) (O.faults out.new))
-        (sink_state (E.taken err.old) (E.faults err.old)) (sink_state (E.taken err.new) (E.faults err.new)) result }
+    ensures { OnCall F.told F.faults O.taken O.faults E.taken E.faults (ShowContract (read_of (map string_bytes own_words.now)))
+        files.old files.new out.old out.new err.old err.new result }
 {
     let reading = match read_words(alloc, own_words) {
         Ok(Some(reading)) => reading,
@@ -164,12 +162,10 @@ pub fn call<F: Files, O: Sink, E: Sink>(
     out: &mut O,
     err: &mut E,
 ) -> Status
-    ensures called { IfOk args (λ given. ShowContract (read_of (words_behind given)) (files_state (F.told files.old) (F.faults files.old)) (files_state (F.told files.new) (F.faults files.new))
-        (sink_state (O.taken out.old) (O.faults out.old)) (sink_state (O.taken out.new) (O.faults out.new))
-        (sink_state (E.taken err.old) (E.faults err.old)) (sink_state (E.taken err.new) (E.faults err.new)) result) }
-    ensures unread { IfErr args (λ error. ShowContract None (files_state (F.told files.old) (F.faults files.old)) (files_state (F.told files.new) (F.faults files.new))
-        (sink_state (O.taken out.old) (O.faults out.old)) (sink_state (O.taken out.new) (O.faults out.new))
-        (sink_state (E.taken err.old) (E.faults err.old)) (sink_state (E.taken err.new) (E.faults err.new)) result) }
+    ensures called { IfOk args (λ given. OnCall F.told F.faults O.taken O.faults E.taken E.faults (ShowContract (read_of (words_behind given)))
+        files.old files.new out.old out.new err.old err.new result) }
+    ensures unread { IfErr args (λ error. OnCall F.told F.faults O.taken O.faults E.taken E.faults (ShowContract None)
+        files.old files.new out.old out.new err.old err.new result) }
     ensures unread_memory { IfErr args (λ error. (result ≡ 6) ↔ (error_kind error ≡ ErrorKind.OutOfMemory)) }
 {
     let args = match args {

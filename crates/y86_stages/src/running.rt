@@ -6,7 +6,7 @@ ghost use Rattle.pipe_stage_text.specs.Listed.{listed};
 ghost use Rattle.seq_plus.specs.Datapaths.{table_rows};
 ghost use Rattle.cli_plans.specs.Stages.{hcl_limit};
 ghost use Rattle.cli_plans.specs.Designs.{IsDesign, RefusesDesign};
-ghost use Rattle.cli_plans.specs.PlanFollowing.{FollowsPlanOver, IsReadResultIn, WritesAnswer, files_state, sink_state};
+ghost use Rattle.cli_plans.specs.PlanFollowing.{FollowsPlanOver, IsReadResultIn, OnFiles, WritesAnswerOn};
 ghost use Rattle.y86_stages.specs.ShowAnswers.{ShownAnswers, Shows, object_plan, stages_plan};
 
 use crate::request::ShowRequest;
@@ -30,8 +30,8 @@ fn design_file<'a, F: Files>(
     name: &'a str,
     files: &mut F,
 ) -> Result<BoundDesign, StopReason<'a>>
-    ensures design { IsReadResultIn name.now hcl_limit (IsDesign (table_rows processor)) (RefusesDesign name.now (table_rows processor)) (λ bound. bound.ordered.design.terms)
-        (files_state (F.told files.old) (F.faults files.old)) (files_state (F.told files.new) (F.faults files.new)) result }
+    ensures design { OnFiles F.told F.faults (IsReadResultIn name.now hcl_limit (IsDesign (table_rows processor)) (RefusesDesign name.now (table_rows processor)) (λ bound. bound.ordered.design.terms))
+        files.old files.new result }
     ensures ordered { IfOk result (IsBoundDesign (table_rows processor)) }
 {
     match processor {
@@ -90,9 +90,8 @@ fn show_image<'a, O: Sink>(
 ) -> Result<u8, StopReason<'a>>
     requires ordered { IsBoundDesign (table_rows request.processor) bound.now }
     requires limit { request.run.limit ≤ 100000000 }
-    ensures { WritesAnswer (ShownAnswers request.entry.processor request.entry.run.variant bound.now.ordered.design.terms (listed object.now)
-        request.entry.run.limit request.entry.window image)
-        (sink_state (O.taken out.old) (O.faults out.old)) (sink_state (O.taken out.new) (O.faults out.new)) result }
+    ensures { WritesAnswerOn O.taken O.faults (ShownAnswers request.entry.processor request.entry.run.variant bound.now.ordered.design.terms (listed object.now)
+        request.entry.run.limit request.entry.window image) out.old out.new result }
 {
     match watch(alloc, request, bound, object, image) {
         Ok(watched) => write_answer(status(watched.end), watched.text.as_slice(), out),
