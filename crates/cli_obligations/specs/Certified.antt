@@ -1,5 +1,5 @@
 -- Certificates of designs for PIPE, as answers.
-use Rattle.std.specs.Prelude.{◌≡◌, ◌⊎◌, ℕ, codes, List, Option}
+use Rattle.std.specs.Prelude.{◌≡◌, ◌⊎◌, ℕ, codes, List}
 use Rattle.cert_log.specs.Files.{HasFault, IsCertificate, MeetsAt, holds_line}
 use Rattle.cert_checker.specs.Certificates.{HasNoHead}
 use Rattle.cert_checker.specs.declared.fault.CertError.{CertError}
@@ -16,7 +16,7 @@ use Rattle.y86_base.specs.declared.parts.Variant.{Variant}
 use Rattle.cli_verdicts.specs.Verdicts.{AnswersNoPipe, RefusesPipe}
 use Rattle.cli_plans.specs.Designs.{IsDesign}
 use Rattle.cli_plans.specs.Lines.{fault_line}
-use Rattle.cli_plans.specs.Plan.{Answer, done, refused}
+use Rattle.cli_plans.specs.Plan.{Answer, Known, done, refused}
 use Rattle.cli_plans.specs.Stops.{answer_at, status_of}
 use Rattle.cli_plans.specs.declared.stop_reason.StopReason as code
 use Rattle.cli_plans.specs.declared.stop_reason.StopReason.TheVariants.{Memory}
@@ -95,7 +95,7 @@ IsCertStop name error.Memory stop = stop ≡ Memory
 -- certificate; the text is read, bound and ordered; its design satisfies every obligation at the settings that the
 -- certificate states. So on every image whose instructions fetch no byte that one of the three before them stored, its
 -- pipeline agrees with the run of instructions after each number of cycles.
-pub record HasCertified (v : Variant) (told told_cert : Option (Option (List ℕ))) : Type 0 where
+pub record HasCertified (v : Variant) (told told_cert : Known) : Type 0 where
   pub text : List ℕ
   pub has : HasBytes told text
   pub terms : List Term

@@ -6,12 +6,12 @@ use Rattle.cli_plans.specs.declared.stop_reason.StopReason.TheVariants.{Usage, R
 use Rattle.cli_plans.specs.CallOutcome.{IsPermitted, IsReached, IsLostCall, LosesCall, CallOutcome}
 use Rattle.cli_plans.specs.PlanFollowing.{FilesState, SinkState, StopsAtRead, StopsReading, WritesAnswer, FollowsPlan}
 use Rattle.cli_plans.specs.Lines.{too_long_line}
-use Rattle.cli_plans.specs.Plan.{Answer, Plan, answer_in, reads, value_in, IsAnswerOf, ComesTo, HasContents, IsFaultless, refused}
+use Rattle.cli_plans.specs.Plan.{Answer, Plan, answer_in, reads, value_in, IsAnswerOf, ComesTo, HasContents, IsFaultless, refused, Known}
 use Rattle.cli_plans.specs.Stops.{answer_at}
 
 -- ---- a leaf
 
-leaf_allowed : (P : Answer → Type 0) (told : List ℕ → Option (Option (List ℕ))) (a : Answer) → P a → IsPermitted (answer_in P) told a
+leaf_allowed : (P : Answer → Type 0) (told : List ℕ → Known) (a : Answer) → P a → IsPermitted (answer_in P) told a
 leaf_allowed P told a p = record { by_some = p; by_told = λ contents tells. p }
 
 leaf_came : (P : Answer → Type 0) (files_before files_after : FilesState) (before after : SinkState) (result : Result ℕ code.StopReason) →
@@ -56,22 +56,22 @@ comes_first name limit next [] = refl
 comes_first name limit next (None ∷ rest) = refl
 comes_first name limit next (Some bytes ∷ rest) = inl refl
 
-read_reached : (name : List ℕ) (limit : ℕ) (next : List ℕ → Plan) (told : List ℕ → Option (Option (List ℕ))) → IsReached (reads name limit next) told name
+read_reached : (name : List ℕ) (limit : ℕ) (next : List ℕ → Plan) (told : List ℕ → Known) → IsReached (reads name limit next) told name
 read_reached name limit next told = record { by_some = inl refl; by_told = λ contents tells. comes_first name limit next contents }
 
-told_long : (known : Option (Option (List ℕ))) (bytes : List ℕ) (limit : ℕ) → HasMore known limit → known ≡ Some (Some bytes) → limit < length bytes
+told_long : (known : Known) (bytes : List ℕ) (limit : ℕ) → HasMore known limit → known ≡ Some (Some bytes) → limit < length bytes
 told_long known bytes limit more tells = rw tells at more
 
-told_none : (known : Option (Option (List ℕ))) (limit : ℕ) → HasMore known limit → known ≡ Some None → ⊥
+told_none : (known : Known) (limit : ℕ) → HasMore known limit → known ≡ Some None → ⊥
 told_none known limit more tells = rw tells at more
 
-long_allowed : (name : List ℕ) (limit : ℕ) (next : List ℕ → Plan) (told : List ℕ → Option (Option (List ℕ))) → HasMore (told name) limit →
+long_allowed : (name : List ℕ) (limit : ℕ) (next : List ℕ → Plan) (told : List ℕ → Known) → HasMore (told name) limit →
     (contents : List (Option (List ℕ))) → HasContents told (reads name limit next) contents → IsAnswerOf (reads name limit next) contents (refused 7 (too_long_line name limit))
 long_allowed name limit next told more [] tells = absurd tells
 long_allowed name limit next told more (None ∷ rest) tells = absurd (told_none (told name) limit more tells)
 long_allowed name limit next told more (Some bytes ∷ rest) tells = inl (told_long (told name) bytes limit more tells.0, refl)
 
-too_long : (name : List ℕ) (limit : ℕ) (next : List ℕ → Plan) (told : List ℕ → Option (Option (List ℕ))) → HasMore (told name) limit →
+too_long : (name : List ℕ) (limit : ℕ) (next : List ℕ → Plan) (told : List ℕ → Known) → HasMore (told name) limit →
     IsPermitted (reads name limit next) told (refused 7 (too_long_line name limit))
 too_long name limit next told more = record { by_some = inr (inl (more, refl)); by_told = long_allowed name limit next told more }
 
@@ -93,14 +93,14 @@ reading_came name limit next files_before files_after before after (Err stop) s 
 
 -- ---- a read after which the plan goes on
 
-is_told : (known : Option (Option (List ℕ))) (bytes other : List ℕ) → HasBytes known bytes → known ≡ Some (Some other) → bytes ≡ other
+is_told : (known : Known) (bytes other : List ℕ) → HasBytes known bytes → known ≡ Some (Some other) → bytes ≡ other
 is_told known bytes other has tells = let same : Some other ≡ Some bytes = rw tells at has in cc (same)
 
-is_not_told : (known : Option (Option (List ℕ))) (bytes : List ℕ) → HasBytes known bytes → known ≡ Some None → ⊥
+is_not_told : (known : Known) (bytes : List ℕ) → HasBytes known bytes → known ≡ Some None → ⊥
 is_not_told known bytes has tells = let same : None ≡ Some bytes = rw tells at has in absurd (cc (same))
 
 -- what holds after a read holds for the read, for all contents that are known
-told_behind : (Q : Plan → List (Option (List ℕ)) → Type 0) (name : List ℕ) (limit : ℕ) (next : List ℕ → Plan) (told : List ℕ → Option (Option (List ℕ))) (bytes : List ℕ) →
+told_behind : (Q : Plan → List (Option (List ℕ)) → Type 0) (name : List ℕ) (limit : ℕ) (next : List ℕ → Plan) (told : List ℕ → Known) (bytes : List ℕ) →
     ((rest : List (Option (List ℕ))) → Q (next bytes) rest → Q (reads name limit next) (Some bytes ∷ rest)) →
     length bytes ≤ limit → HasBytes (told name) bytes → ((contents : List (Option (List ℕ))) → HasContents told (next bytes) contents → Q (next bytes) contents) →
     (contents : List (Option (List ℕ))) → HasContents told (reads name limit next) contents → Q (reads name limit next) contents
@@ -111,14 +111,14 @@ told_behind Q name limit next told bytes put short has behind (Some other ∷ re
     let P : List ℕ → Type 0 = λ xs. (length xs ≤ limit → HasContents told (next xs) rest) → Q (reads name limit next) (Some xs ∷ rest) in
     subst P same (λ t. put rest (behind rest (t short))) tells.1
 
-behind_allowed : (name : List ℕ) (limit : ℕ) (next : List ℕ → Plan) (told : List ℕ → Option (Option (List ℕ))) (bytes : List ℕ) →
+behind_allowed : (name : List ℕ) (limit : ℕ) (next : List ℕ → Plan) (told : List ℕ → Known) (bytes : List ℕ) →
     length bytes ≤ limit → HasBytes (told name) bytes → (a : Answer) → IsPermitted (next bytes) told a → IsPermitted (reads name limit next) told a
 behind_allowed name limit next told bytes short has a h = record {
   by_some = inr (inr (bytes, has, short, h.by_some));
   by_told = told_behind (λ plan contents. IsAnswerOf plan contents a) name limit next told bytes (λ rest p. inr (short, p)) short has h.by_told;
 }
 
-behind_reached : (name : List ℕ) (limit : ℕ) (next : List ℕ → Plan) (told : List ℕ → Option (Option (List ℕ))) (bytes : List ℕ) →
+behind_reached : (name : List ℕ) (limit : ℕ) (next : List ℕ → Plan) (told : List ℕ → Known) (bytes : List ℕ) →
     length bytes ≤ limit → HasBytes (told name) bytes → (file : List ℕ) → IsReached (next bytes) told file → IsReached (reads name limit next) told file
 behind_reached name limit next told bytes short has file h = record {
   by_some = inr (bytes, has, short, h.by_some);
@@ -127,21 +127,21 @@ behind_reached name limit next told bytes short has file h = record {
 
 -- ---- a stage
 
-value_allowed : {A : Type 0} (P : A → Type 0) (E : Answer → Type 0) (next : A → Plan) (told : List ℕ → Option (Option (List ℕ))) (x : A) → P x →
+value_allowed : {A : Type 0} (P : A → Type 0) (E : Answer → Type 0) (next : A → Plan) (told : List ℕ → Known) (x : A) → P x →
     (a : Answer) → IsPermitted (next x) told a → IsPermitted (value_in P E next) told a
 value_allowed P E next told x p a h =
     record { by_some = inl (x, p, h.by_some); by_told = λ contents tells. inl (x, p, h.by_told contents (tells x p)) }
 
-value_reached : {A : Type 0} (P : A → Type 0) (E : Answer → Type 0) (next : A → Plan) (told : List ℕ → Option (Option (List ℕ))) (x : A) → P x →
+value_reached : {A : Type 0} (P : A → Type 0) (E : Answer → Type 0) (next : A → Plan) (told : List ℕ → Known) (x : A) → P x →
     (file : List ℕ) → IsReached (next x) told file → IsReached (value_in P E next) told file
 value_reached P E next told x p file h =
     record { by_some = (x, p, h.by_some); by_told = λ contents tells. (x, p, h.by_told contents (tells x p)) }
 
-end_allowed : {A : Type 0} (P : A → Type 0) (E : Answer → Type 0) (next : A → Plan) (told : List ℕ → Option (Option (List ℕ))) (a : Answer) →
+end_allowed : {A : Type 0} (P : A → Type 0) (E : Answer → Type 0) (next : A → Plan) (told : List ℕ → Known) (a : Answer) →
     IsPermitted (answer_in E) told a → IsPermitted (value_in P E next) told a
 end_allowed P E next told a h = record { by_some = inr h.by_some; by_told = λ contents tells. inr h.by_some }
 
-end_reached : {A : Type 0} (P : A → Type 0) (E : Answer → Type 0) (next : A → Plan) (told : List ℕ → Option (Option (List ℕ))) (file : List ℕ) →
+end_reached : {A : Type 0} (P : A → Type 0) (E : Answer → Type 0) (next : A → Plan) (told : List ℕ → Known) (file : List ℕ) →
     IsReached (answer_in E) told file → IsReached (value_in P E next) told file
 end_reached P E next told file h = absurd h.by_some
 

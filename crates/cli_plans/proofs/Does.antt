@@ -1,21 +1,21 @@
 -- How a call follows its plan, stage after stage.
-use Rattle.std.proofs.Common.{◌≡◌, ◌⊎◌, ℕ, ◌≤◌, List, length, refl, ap, ◌∙◌, inl, inr, Option, Some, None, IfSome, Result, Ok, Err}
+use Rattle.std.proofs.Common.{◌≡◌, ◌⊎◌, ℕ, ◌≤◌, List, length, refl, ap, ◌∙◌, inl, inr, Some, None, IfSome, Result, Ok, Err}
 use Rattle.wb_io.specs.Causes.{counted}
 use Rattle.wb_io.specs.Files.{HasBytes, HasMore}
 use Rattle.cli_plans.specs.declared.stop_reason.StopReason as code
 use Rattle.cli_plans.specs.declared.stop_reason.StopReason.TheVariants.{Usage, Read, Write, Refused, Memory, TooLong}
 use Rattle.cli_plans.specs.PlanFollowing.{FilesState, IsStageResultIn, SinkState, IsLater, IsRead, NoReadFailed, IsReadResultIn, RefusesWith, StopsAtRead, StopsReading, WritesAnswer, FollowsPlan}
-use Rattle.cli_plans.specs.Plan.{Answer, Plan, value_from, answers, value_in, answer_in, reads}
+use Rattle.cli_plans.specs.Plan.{Answer, Plan, value_from, answers, value_in, answer_in, reads, Known}
 use Rattle.cli_plans.specs.Stops.{answer_at, status_of}
 
 fault_earlier : (first before now : ℕ) → before ≡ first → now ≡ counted before → now ≡ counted first
 fault_earlier first before now same fault = fault ∙ ap counted same
 
-has_earlier : (old new : Option (Option (List ℕ))) (bytes : List ℕ) → IfSome old (λ known. new ≡ Some known) → HasBytes new bytes → HasBytes old bytes
+has_earlier : (old new : Known) (bytes : List ℕ) → IfSome old (λ known. new ≡ Some known) → HasBytes new bytes → HasBytes old bytes
 has_earlier None new bytes stays h = tt
 has_earlier (Some known) new bytes stays h = rw stays at h
 
-more_earlier : (old new : Option (Option (List ℕ))) (limit : ℕ) → IfSome old (λ known. new ≡ Some known) → HasMore new limit → HasMore old limit
+more_earlier : (old new : Known) (limit : ℕ) → IfSome old (λ known. new ≡ Some known) → HasMore new limit → HasMore old limit
 more_earlier None new limit stays h = tt
 more_earlier (Some known) new limit stays h = rw stays at h
 

@@ -4,18 +4,18 @@ use Rattle.wb_io.specs.Causes.{counted}
 use Rattle.wb_io.specs.Sinks.{Appended, AppendedPrefix}
 use Rattle.cli_plans.specs.declared.stop_reason.StopReason as code
 use Rattle.cli_plans.specs.PlanFollowing.{FilesState, SinkState}
-use Rattle.cli_plans.specs.Plan.{Answer, Plan, IsAnswerOf, ComesTo, MayBeAnswer, MayComeTo, HasContents}
+use Rattle.cli_plans.specs.Plan.{Answer, Plan, IsAnswerOf, ComesTo, MayBeAnswer, MayComeTo, HasContents, Known}
 use Rattle.cli_plans.specs.Stops.{answer_at, read_name, status_of}
 
 -- an answer that is allowed for some contents that agree with what is known of the files, and for all contents that are
 -- known
-pub record IsPermitted (plan : Plan) (told : List ℕ → Option (Option (List ℕ))) (a : Answer) : Type 0 where
+pub record IsPermitted (plan : Plan) (told : List ℕ → Known) (a : Answer) : Type 0 where
   pub by_some : MayBeAnswer told plan a
   pub by_told : (contents : List (Option (List ℕ))) → HasContents told plan contents → IsAnswerOf plan contents a
 
 -- the plan reaches a file: for some contents that agree with what is known of the files, and for all contents that are
 -- known
-pub record IsReached (plan : Plan) (told : List ℕ → Option (Option (List ℕ))) (name : List ℕ) : Type 0 where
+pub record IsReached (plan : Plan) (told : List ℕ → Known) (name : List ℕ) : Type 0 where
   pub by_some : MayComeTo told plan name
   pub by_told : (contents : List (Option (List ℕ))) → HasContents told plan contents → ComesTo plan contents name
 

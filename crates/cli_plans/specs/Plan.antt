@@ -52,8 +52,12 @@ ComesTo (reads name limit next) (None ∷ rest) file = file ≡ name
 ComesTo (reads name limit next) (Some bytes ∷ rest) file = (file ≡ name) ⊎ ((length bytes ≤ limit) × ComesTo (next bytes) rest file)
 ComesTo (value_in {A} P E next) contents file = (x : A) × P x × ComesTo (next x) contents file
 
+-- what is known of the bytes under one name: nothing, that the name has none, or all of them
+abbrev pub Known : Type 0
+Known = Option (Option (List ℕ))
+
 -- each file that the plan reaches is known to have these contents
-abbrev pub HasContents : (List ℕ → Option (Option (List ℕ))) → Plan → List (Option (List ℕ)) → Type 0
+abbrev pub HasContents : (List ℕ → Known) → Plan → List (Option (List ℕ)) → Type 0
 HasContents told (answer_in P) contents = Unit {0}
 HasContents told (reads name limit next) [] = ⊥
 HasContents told (reads name limit next) (None ∷ rest) = told name ≡ Some None
@@ -73,7 +77,7 @@ pub record IsDetermined (plan : Plan) : Type 0 where
   pub just_one : (contents : List (Option (List ℕ))) → (a : Answer) × IsAnswerOf plan contents a × ((b : Answer) → IsAnswerOf plan contents b → b ≡ a)
 
 -- an answer for some contents that agree with what is known of the files
-abbrev pub MayBeAnswer : (List ℕ → Option (Option (List ℕ))) → Plan → Answer → Type 0
+abbrev pub MayBeAnswer : (List ℕ → Known) → Plan → Answer → Type 0
 MayBeAnswer told (answer_in P) a = P a
 MayBeAnswer told (reads name limit next) a =
     (IfSome (told name) (λ known. known ≡ None) × (a ≡ refused 3 (read_fault_line name)))
@@ -82,7 +86,7 @@ MayBeAnswer told (reads name limit next) a =
 MayBeAnswer told (value_in {A} P E next) a = ((x : A) × P x × MayBeAnswer told (next x) a) ⊎ E a
 
 -- the plan reaches a file, for some contents that agree with what is known of the files
-abbrev pub MayComeTo : (List ℕ → Option (Option (List ℕ))) → Plan → List ℕ → Type 0
+abbrev pub MayComeTo : (List ℕ → Known) → Plan → List ℕ → Type 0
 MayComeTo told (answer_in P) file = ⊥
 MayComeTo told (reads name limit next) file =
     (file ≡ name) ⊎ ((bytes : List ℕ) × HasBytes (told name) bytes × (length bytes ≤ limit) × MayComeTo told (next bytes) file)

@@ -5,12 +5,12 @@ use Rattle.wb_io.specs.Files.{HasBytes, HasMore}
 use Rattle.wb_io.specs.Sinks.{Appended, AppendedPrefix}
 use Rattle.cli_plans.specs.declared.stop_reason.StopReason as code
 use Rattle.cli_plans.specs.declared.stop_reason.StopReason.TheVariants.{Write, Refused, Memory, Read, TooLong}
-use Rattle.cli_plans.specs.Plan.{Answer, Plan, value_in, answer_in, reads}
+use Rattle.cli_plans.specs.Plan.{Answer, Plan, value_in, answer_in, reads, Known}
 use Rattle.cli_plans.specs.Stops.{answer_at, status_of}
 
 -- the files: what is known of their contents, and for each name a count of failed reads
 pub record FilesState : Type 0 where
-  pub told : List ℕ → Option (Option (List ℕ))
+  pub told : List ℕ → Known
   pub faults : List ℕ → ℕ
 
 -- standard output or standard error: what was written to it, and the number of failed writes
@@ -18,7 +18,7 @@ pub record SinkState : Type 0 where
   pub taken : Option (List ℕ)
   pub faults : ℕ
 
-abbrev pub files_state : (List ℕ → Option (Option (List ℕ))) → (List ℕ → ℕ) → FilesState
+abbrev pub files_state : (List ℕ → Known) → (List ℕ → ℕ) → FilesState
 files_state told faults = record { told = told; faults = faults }
 
 abbrev pub sink_state : Option (List ℕ) → ℕ → SinkState
@@ -112,7 +112,7 @@ FollowsPlan (value_in {A} P E next) files_before files_after before after result
 -- ---- for any files and any sinks, by what is known of the files, what was written, and the counts of failures
 
 -- a relation of the files before and after
-abbrev pub OnFiles : {F : Type 0} {A : Type 1} → (F → List ℕ → Option (Option (List ℕ))) → (F → List ℕ → ℕ) → (FilesState → FilesState → A) → F → F → A
+abbrev pub OnFiles : {F : Type 0} {A : Type 1} → (F → List ℕ → Known) → (F → List ℕ → ℕ) → (FilesState → FilesState → A) → F → F → A
 OnFiles told faults R before after = R (files_state (told before) (faults before)) (files_state (told after) (faults after))
 
 -- a relation of a sink before and after
@@ -120,12 +120,12 @@ abbrev pub OnSink : {O : Type 0} {A : Type 1} → (O → Option (List ℕ)) → 
 OnSink taken faults R before after = R (sink_state (taken before) (faults before)) (sink_state (taken after) (faults after))
 
 -- a relation of the files and a sink before and after
-abbrev pub OnFilesAndSink : {F O : Type 0} {A : Type 1} → (F → List ℕ → Option (Option (List ℕ))) → (F → List ℕ → ℕ) → (O → Option (List ℕ)) → (O → ℕ) →
+abbrev pub OnFilesAndSink : {F O : Type 0} {A : Type 1} → (F → List ℕ → Known) → (F → List ℕ → ℕ) → (O → Option (List ℕ)) → (O → ℕ) →
     (FilesState → FilesState → SinkState → SinkState → A) → F → F → O → O → A
 OnFilesAndSink told reads_failed taken faults R files_before files_after = OnSink taken faults (OnFiles told reads_failed R files_before files_after)
 
 -- a relation of the files, standard output and standard error before and after
-abbrev pub OnCall : {F O E : Type 0} {A : Type 1} → (F → List ℕ → Option (Option (List ℕ))) → (F → List ℕ → ℕ) → (O → Option (List ℕ)) → (O → ℕ) →
+abbrev pub OnCall : {F O E : Type 0} {A : Type 1} → (F → List ℕ → Known) → (F → List ℕ → ℕ) → (O → Option (List ℕ)) → (O → ℕ) →
     (E → Option (List ℕ)) → (E → ℕ) → (FilesState → FilesState → SinkState → SinkState → SinkState → SinkState → A) → F → F → O → O → E → E → A
 OnCall told reads_failed taken faults err_taken err_faults R files_before files_after out_before out_after =
     OnSink err_taken err_faults (OnFilesAndSink told reads_failed taken faults R files_before files_after out_before out_after)
@@ -133,7 +133,7 @@ OnCall told reads_failed taken faults err_taken err_faults R files_before files_
 abbrev pub WritesAnswerOn : {O : Type 0} → (O → Option (List ℕ)) → (O → ℕ) → (Answer → Type 0) → O → O → Result ℕ code.StopReason → Type 0
 WritesAnswerOn taken faults P before after result = OnSink taken faults (WritesAnswer P) before after result
 
-abbrev pub FollowsPlanOver : {F O : Type 0} → (F → List ℕ → Option (Option (List ℕ))) → (F → List ℕ → ℕ) → (O → Option (List ℕ)) → (O → ℕ) →
+abbrev pub FollowsPlanOver : {F O : Type 0} → (F → List ℕ → Known) → (F → List ℕ → ℕ) → (O → Option (List ℕ)) → (O → ℕ) →
     Plan → F → F → O → O → Result ℕ code.StopReason → Type 0
 FollowsPlanOver told reads_failed taken faults plan files_before files_after before after result =
     OnFilesAndSink told reads_failed taken faults (FollowsPlan plan) files_before files_after before after result

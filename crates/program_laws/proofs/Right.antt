@@ -1,6 +1,6 @@
 -- The answers of the calls for a program that stops, in which no instruction fetches a byte that one of the three
 -- before it stored.
-use Rattle.std.proofs.Common.{◌≡◌, ◌≢◌, ◌*◌, ◌≤◌, inl, inr, ℕ, Bool, true, false, List, [], ◌++◌, length, Option, Some, Result, Ok, refl, sym, ap, subst, ◌∙◌}
+use Rattle.std.proofs.Common.{◌≡◌, ◌≢◌, ◌*◌, ◌≤◌, inl, inr, ℕ, Bool, true, false, List, [], ◌++◌, length, Some, Result, Ok, refl, sym, ap, subst, ◌∙◌}
 use Rattle.dp_signals.specs.PipeRun.{PipeHistory}
 use Rattle.dp_signals.specs.PipeTable.{pipe_rows}
 use Rattle.control_check.specs.PipeVerdicts.{RefinesPipe}
@@ -27,7 +27,7 @@ use Rattle.cli_plans.specs.Stages.{image_of_text, run_status}
 use Rattle.cli_plans.specs.Designs.{IsDesign, RefusesDesign}
 use Rattle.cli_plans.specs.PlanFollowing.{FilesState, SinkState}
 use Rattle.cli_runs.specs.PipeRuns.{end_of, ran_line, run_text}
-use Rattle.cli_plans.specs.Plan.{Answer, MayBeAnswer, value_from}
+use Rattle.cli_plans.specs.Plan.{Answer, Known, MayBeAnswer, value_from}
 use Rattle.y86_cli.specs.CallContract.{CallContract}
 use Rattle.y86_call_laws.proofs.Agreement.{loads_ok}
 use Rattle.y86_call_laws.proofs.Bigs.{not_long, not_missing, not_refused, one_design, same_bytes}
@@ -75,7 +75,7 @@ right_answer v terms image steps limit trace a refines stops room (cycles, end, 
       out_is = ap (λ x. x.out) said ∙ text_is v image steps cycles trace end stops ends;
     }
 
-module _ (told : List ℕ → Option (Option (List ℕ))) (v : Variant) (size limit : ℕ) (trace : Bool) (bytes image : List ℕ) (steps : ℕ) (loads : object_of bytes size ≡ Ok image)
+module _ (told : List ℕ → Known) (v : Variant) (size limit : ℕ) (trace : Bool) (bytes image : List ℕ) (steps : ℕ) (loads : object_of bytes size ≡ Ok image)
     (stops : StopsIn v image steps) (near : (k : ℕ) → NearPure v image k) (sized : IsSize size) (room : 5 * steps ≤ limit) (terms : List Term) (refines : RefinesPipe v terms) where
   refines_it : (k : ℕ) → Refines v terms image k
   refines_it k = refines image k (loaded_is_image bytes size image sized loads) (near k)
@@ -131,7 +131,7 @@ prints_run words name object text bytes image size limit steps trace v files_bef
 
 -- ---- the answer of `yis`
 
-yis_answers : (told : List ℕ → Option (Option (List ℕ))) (v : Variant) (size limit : ℕ) (object bytes image : List ℕ) (a : Answer) → told object ≡ Some (Some bytes) → length bytes ≤ 1048576 →
+yis_answers : (told : List ℕ → Known) (v : Variant) (size limit : ℕ) (object bytes image : List ℕ) (a : Answer) → told object ≡ Some (Some bytes) → length bytes ≤ 1048576 →
     object_of bytes size ≡ Ok image → MayBeAnswer told (yis_plan object size limit v) a → a ≡ yis_run v image limit
 unfolding yis_plan value_from
 yis_answers told v size limit object bytes image a is short loads (inl failed) = absurd (not_missing (told object) bytes is failed.0)

@@ -1,5 +1,5 @@
 //! Theorems about an accepted file and a program. Each is a function that does nothing; its contract is the theorem.
-ghost use Rattle.std.specs.Prelude.{◌≡◌, ◌≢◌, ◌*◌, ◌≤◌, Bool, List, ℕ, length, Option, Ok, Some, false, true};
+ghost use Rattle.std.specs.Prelude.{◌≡◌, ◌≢◌, ◌*◌, ◌≤◌, Bool, List, ℕ, length, Ok, Some, false, true};
 ghost use Rattle.pipe_refinement.specs.Refines.{Refines};
 ghost use Rattle.prog_cosim.specs.Ends.{StopsIn};
 ghost use Rattle.program_check.specs.Near.{IsWatched};
@@ -9,6 +9,7 @@ ghost use Rattle.y86_base.specs.declared.parts.Variant.{Variant};
 ghost use Rattle.y86_isa.specs.Run.{IsImage, Pure};
 ghost use Rattle.yo_object.specs.ObjectText.{object_of};
 ghost use Rattle.y86_call_laws.specs.CheckedRuns.{HasAccepted};
+ghost use Rattle.cli_plans.specs.Plan.{Known};
 ghost use Rattle.cli_plans.specs.PlanFollowing.{FilesState, SinkState};
 ghost use Rattle.y86_cli.specs.CallContract.{CallContract};
 ghost use Rattle.y86_words.specs.Forms.{form_of, psim, yis};
@@ -46,7 +47,7 @@ pub fn law_of_checked_programs()
 /// refines the run of instructions on this image for k cycles. If no instruction of a program fetches such a byte, and
 /// the program stops, `psim` prints its run as above.
 pub fn law_of_pure_programs()
-    ensures refines { (v : Variant) (told : Option (Option (List ℕ))) (h : HasAccepted v told) (image : List ℕ) (k : ℕ) →
+    ensures refines { (v : Variant) (told : Known) (h : HasAccepted v told) (image : List ℕ) (k : ℕ) →
         IsImage image → Pure v image k → Refines v h.terms image k }
     ensures psim { (words : List (List ℕ)) (name object text bytes image : List ℕ) (size limit steps : ℕ) (trace : Bool) (v : Variant)
         (files_before files_after : FilesState) (out_before out_after err_before err_after : SinkState) (status : ℕ) →

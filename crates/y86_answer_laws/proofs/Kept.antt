@@ -22,7 +22,7 @@ use Rattle.y86_cli.specs.Answers.{plan_in}
 use Rattle.cli_obligations.specs.Certified.{Rechecks, cert_fault_line, cert_limit}
 use Rattle.cli_plans.specs.Designs.{IsDesign}
 use Rattle.cli_plans.specs.PlanFollowing.{FilesState, SinkState}
-use Rattle.cli_plans.specs.Plan.{IsAnswerOf, Answer, HasContents, refused}
+use Rattle.cli_plans.specs.Plan.{IsAnswerOf, Answer, HasContents, refused, Known}
 use Rattle.y86_cli.specs.CallContract.{CallContract, DeliversOnBoth}
 use Rattle.cli_plans.specs.Calls.{WroteError}
 use Rattle.y86_call_laws.proofs.Agreement.{control_high, design_high, high}
@@ -41,7 +41,7 @@ pub record Written (v : Variant) (text cert : List ℕ) : Type 0 where
   pub accepted : AcceptsPipe v terms settings
   pub certificate : IsCertificate v terms settings cert
 
-certify_tells : (told : List ℕ → Option (Option (List ℕ))) (name : List ℕ) (v : Variant) (text : List ℕ) → told name ≡ Some (Some text) →
+certify_tells : (told : List ℕ → Known) (name : List ℕ) (v : Variant) (text : List ℕ) → told name ≡ Some (Some text) →
     HasContents told (certify_pipe_plan name v) (Some text ∷ [])
 unfolding certify_pipe_plan
 certify_tells told name v text is = (is, λ short terms d. tt)
@@ -72,7 +72,7 @@ all_taken before after text now empty is took =
 -- ---- the check
 
 module _ (name cert : List ℕ) (v : Variant) (text bytes : List ℕ) (w : Written v text bytes) (small : length bytes ≤ cert_limit) where
-  recheck_tells : (told : List ℕ → Option (Option (List ℕ))) → told name ≡ Some (Some text) → told cert ≡ Some (Some bytes) → HasContents told (recheck_plan name cert v) (Some text ∷ Some bytes ∷ [])
+  recheck_tells : (told : List ℕ → Known) → told name ≡ Some (Some text) → told cert ≡ Some (Some bytes) → HasContents told (recheck_plan name cert v) (Some text ∷ Some bytes ∷ [])
   unfolding recheck_plan certificate_plan
   recheck_tells told is other = (is, λ short terms d atoms are. (other, λ fits. tt))
 

@@ -1,5 +1,5 @@
 -- What the answers of `check`, and of `psim` after a check, mean for the run of instructions.
-use Rattle.std.proofs.Common.{◌≡◌, ◌⊎◌, codes, ℕ, zero, suc, ◌≤◌, Bool, true, List, ◌++◌, length, refl, sym, ap, subst, ◌∙◌, inl, inr, Option, Some, Result, Ok, Err, lit≤, arith}
+use Rattle.std.proofs.Common.{◌≡◌, ◌⊎◌, codes, ℕ, zero, suc, ◌≤◌, Bool, true, List, ◌++◌, length, refl, sym, ap, subst, ◌∙◌, inl, inr, Some, Result, Ok, Err, lit≤, arith}
 use Rattle.dp_signals.specs.PipeRun.{PipeHistory, PipeRun}
 use Rattle.dp_signals.specs.PipeTable.{pipe_rows}
 use Rattle.hcl_types.specs.declared.table.Row.{Row}
@@ -26,7 +26,7 @@ use Rattle.cli_plans.specs.Designs.{IsDesign, RefusesDesign}
 use Rattle.cli_plans.specs.PlanFollowing.{FilesState, SinkState}
 use Rattle.y86_words.specs.Forms.{check_pipe, check_plus, check_seq, form_of, psim}
 use Rattle.cli_plans.specs.Lines.{object_fault_line}
-use Rattle.cli_plans.specs.Plan.{Answer, MayBeAnswer, value_from, done, refused}
+use Rattle.cli_plans.specs.Plan.{Answer, MayBeAnswer, value_from, done, refused, Known}
 use Rattle.cli_runs.specs.PipeRuns.{RunsFor, end_of, run_text}
 use Rattle.y86_cli.specs.CallContract.{CallContract, DeliversOnBoth}
 use Rattle.y86_words.proofs.Legal.{form_legal}
@@ -77,12 +77,12 @@ load_high name (Err fault) a e low = let same : refused 5 (object_fault_line nam
 
 -- ---- `check pipe`
 
-has_accepted : (v : Variant) (told : Option (Option (List ℕ))) (text : List ℕ) (terms : List Term) (a : Answer) → HasBytes told text → IsDesign pipe_rows text terms →
+has_accepted : (v : Variant) (told : Known) (text : List ℕ) (terms : List Term) (a : Answer) → HasBytes told text → IsDesign pipe_rows text terms →
     AnswersYesPipe v terms a → HasAccepted v told
 has_accepted v told text terms a has design accepts =
     record { text = text; has = has; terms = terms; design = design; settings = accepts.settings; accepted = accepts.accepted; refines = accepts.refines }
 
-check_told : (told : List ℕ → Option (Option (List ℕ))) (name : List ℕ) (v : Variant) (a : Answer) → MayBeAnswer told (check_pipe_plan name v) a → a.status ≡ 0 →
+check_told : (told : List ℕ → Known) (name : List ℕ) (v : Variant) (a : Answer) → MayBeAnswer told (check_pipe_plan name v) a → a.status ≡ 0 →
     (file : HasAccepted v (told name)) × (a.out ≡ pipe_yes file.settings)
 unfolding check_pipe_plan has_accepted
 check_told told name v a (inl failed) none = absurd (high a 3 _ failed.1 (lit≤ tt) (omega (arith, none)))
@@ -104,7 +104,7 @@ check_accepts name v files_before files_after out_before out_after err_before er
 
 -- ---- `check seq` and `check seqplus`
 
-check_seq_told : (which : SequentialDatapath) (told : List ℕ → Option (Option (List ℕ))) (name : List ℕ) (v : Variant) (a : Answer) → MayBeAnswer told (check_seq_plan which name v) a →
+check_seq_told : (which : SequentialDatapath) (told : List ℕ → Known) (name : List ℕ) (v : Variant) (a : Answer) → MayBeAnswer told (check_seq_plan which name v) a →
     a.status ≡ 0 → HasAcceptedSeq which v (told name) × (a.out ≡ codes "yes\n")
 unfolding check_seq_plan
 check_seq_told which told name v a (inl failed) none = absurd (high a 3 _ failed.1 (lit≤ tt) (omega (arith, none)))
@@ -137,11 +137,11 @@ check_plus_accepts name v files_before files_after out_before out_after err_befo
 
 -- ---- `psim` after a check
 
-abbrev Told : (v : Variant) (size limit : ℕ) (trace : Bool) (hcl object : Option (Option (List ℕ))) (early late : SinkState) (status : ℕ) → Type 0
+abbrev Told : (v : Variant) (size limit : ℕ) (trace : Bool) (hcl object : Known) (early late : SinkState) (status : ℕ) → Type 0
 Told v size limit trace hcl object early late status =
     CheckedRunIsRight v size limit trace hcl object early late status ⊎ AnsweredNo v hcl early late status
 
-ran_accepted : (v : Variant) (size limit : ℕ) (trace : Bool) (hcl object : Option (Option (List ℕ))) (early late : SinkState) (status : ℕ) (a : Answer) →
+ran_accepted : (v : Variant) (size limit : ℕ) (trace : Bool) (hcl object : Known) (early late : SinkState) (status : ℕ) (a : Answer) →
     IsSize size → status ≡ a.status → Appended early.taken late.taken a.out → (text : List ℕ) → HasBytes hcl text → (terms : List Term) → IsDesign pipe_rows text terms →
     (verdict : List ℕ) → AnswersYesPipe v terms (done 0 verdict) → (bytes : List ℕ) → HasBytes object bytes → (image : List ℕ) → object_of bytes size ≡ Ok image →
     PipeAnswers v terms limit trace verdict image a → CheckedRunIsRight v size limit trace hcl object early late status
@@ -163,7 +163,7 @@ ran_accepted v size limit trace hcl object early late status a sized is took tex
       agrees = λ pure. agree v terms image trace cycles end (accepts.refines image cycles (loaded_is_image bytes size image sized loads) pure) runs.goes;
     }
 
-psim_told : (told : List ℕ → Option (Option (List ℕ))) (name object : List ℕ) (size limit : ℕ) (trace : Bool) (v : Variant) (early late : SinkState) (status : ℕ)
+psim_told : (told : List ℕ → Known) (name object : List ℕ) (size limit : ℕ) (trace : Bool) (v : Variant) (early late : SinkState) (status : ℕ)
     (a : Answer) → IsSize size → status ≡ a.status → a.status ≤ 1 → Appended early.taken late.taken a.out → MayBeAnswer told (psim_plan name object size limit trace true v) a →
     Told v size limit trace (told name) (told object) early late status
 unfolding psim_plan checked_plan pipe_plan value_from

@@ -1,5 +1,5 @@
 -- What `big` answers for an accepted file.
-use Rattle.std.proofs.Common.{◌≡◌, ◌≢◌, inl, inr, ℕ, ◌+◌, ◌≤◌, true, List, [], ◌∷◌, length, Option, Some, None, IfSome, refl, sym, ap, subst, ◌∙◌, Result, Ok, arith}
+use Rattle.std.proofs.Common.{◌≡◌, ◌≢◌, inl, inr, ℕ, ◌+◌, ◌≤◌, true, List, [], ◌∷◌, length, Some, None, IfSome, refl, sym, ap, subst, ◌∙◌, Result, Ok, arith}
 use Rattle.wb_io.specs.Files.{HasBytes, HasMore}
 use Rattle.wb_io.specs.Sinks.{Appended}
 use Rattle.y86_base.specs.declared.parts.Variant.{Variant}
@@ -29,7 +29,7 @@ use Rattle.cli_runs.specs.Answers.{big_plan}
 use Rattle.cli_runs.specs.Big.{BigAnswers, AnsweredSame, big_line, big_status}
 use Rattle.cli_plans.specs.Designs.{IsDesign, RefusesDesign}
 use Rattle.cli_plans.specs.PlanFollowing.{FilesState, SinkState}
-use Rattle.cli_plans.specs.Plan.{Answer, MayBeAnswer, done}
+use Rattle.cli_plans.specs.Plan.{Answer, Known, MayBeAnswer, done}
 use Rattle.y86_cli.specs.CallContract.{CallContract}
 
 -- ---- the one design of a text
@@ -65,21 +65,21 @@ big_alike : (v : Variant) (terms : List Term) (n : ℕ) (a : Answer) → 1 ≤ n
 big_alike v terms n a least most refines (both, goes, is) =
     record { both = both; alike = runs_alike v terms n both least most (λ k. refines (program n) k (is_image n least most) (near_from_pure v (program n) k (pure v n k least most))) goes; is = is }
 
-pub same_bytes : (known : Option (Option (List ℕ))) (text bytes : List ℕ) → known ≡ Some (Some text) → HasBytes known bytes → text ≡ bytes
+pub same_bytes : (known : Known) (text bytes : List ℕ) → known ≡ Some (Some text) → HasBytes known bytes → text ≡ bytes
 same_bytes None text bytes is has = absurd (cc (is))
 same_bytes (Some known) text bytes is has = cc (is, has)
 
-pub not_missing : (known : Option (Option (List ℕ))) (text : List ℕ) → known ≡ Some (Some text) → IfSome known (λ x. x ≡ None) → ⊥
+pub not_missing : (known : Known) (text : List ℕ) → known ≡ Some (Some text) → IfSome known (λ x. x ≡ None) → ⊥
 not_missing None text is none = absurd (cc (is))
 not_missing (Some known) text is none = absurd (cc (is, none))
 
-pub not_long : (known : Option (Option (List ℕ))) (text : List ℕ) (limit : ℕ) → known ≡ Some (Some text) → length text ≤ limit → HasMore known limit → ⊥
+pub not_long : (known : Known) (text : List ℕ) (limit : ℕ) → known ≡ Some (Some text) → length text ≤ limit → HasMore known limit → ⊥
 not_long None text limit is short more = absurd (cc (is))
 not_long (Some known) text limit is short more =
     let same : known ≡ Some text = cc (is) in
     omega (arith, rw same at more, short)
 
-big_told : (told : List ℕ → Option (Option (List ℕ))) (n : ℕ) (name : List ℕ) (v : Variant) (a : Answer) (text : List ℕ) (terms : List Term) → 1 ≤ n → n ≤ 100000 →
+big_told : (told : List ℕ → Known) (n : ℕ) (name : List ℕ) (v : Variant) (a : Answer) (text : List ℕ) (terms : List Term) → 1 ≤ n → n ≤ 100000 →
     told name ≡ Some (Some text) → length text ≤ 65536 → IsDesign pipe_rows text terms → RefinesPipe v terms → MayBeAnswer told (big_plan n name v) a → Alike n a
 unfolding big_plan
 big_told told n name v a text terms least most is short design refines (inl failed) = absurd (not_missing (told name) text is failed.0)

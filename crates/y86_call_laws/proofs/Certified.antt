@@ -1,5 +1,5 @@
 -- What an answer to `check pipe` with `--cert`, or to `recheck`, means for the run of instructions.
-use Rattle.std.proofs.Common.{◌≡◌, ◌⊎◌, ℕ, ◌≤◌, List, length, refl, sym, ap, subst, inl, inr, Option, Some, lit≤, arith}
+use Rattle.std.proofs.Common.{◌≡◌, ◌⊎◌, ℕ, ◌≤◌, List, length, refl, sym, ap, subst, inl, inr, Some, lit≤, arith}
 use Rattle.cert_log.specs.Files.{IsCertificate, holds_line}
 use Rattle.dp_signals.specs.PipeTable.{pipe_rows}
 use Rattle.hcl_types.specs.declared.term.Term.{Term}
@@ -12,13 +12,13 @@ use Rattle.cli_obligations.specs.Answers.{certificate_plan, certify_pipe_plan, r
 use Rattle.cli_obligations.specs.Certified.{HasCertified}
 use Rattle.cli_verdicts.specs.Verdicts.{RefusesControl}
 use Rattle.cli_plans.specs.PlanFollowing.{FilesState, SinkState}
-use Rattle.cli_plans.specs.Plan.{Answer, MayBeAnswer, done, refused}
+use Rattle.cli_plans.specs.Plan.{Answer, Known, MayBeAnswer, done, refused}
 use Rattle.y86_cli.specs.CallContract.{CallContract}
 use Rattle.y86_call_laws.proofs.Agreement.{control_high, design_high, high}
 
 -- ---- what an answer with status 0 means
 
-certify_told : (told : List ℕ → Option (Option (List ℕ))) (name : List ℕ) (v : Variant) (a : Answer) → MayBeAnswer told (certify_pipe_plan name v) a → a.status ≡ 0 →
+certify_told : (told : List ℕ → Known) (name : List ℕ) (v : Variant) (a : Answer) → MayBeAnswer told (certify_pipe_plan name v) a → a.status ≡ 0 →
     (file : HasAccepted v (told name)) × (text : List ℕ) × IsCertificate v file.terms file.settings text × (a.out ≡ text)
 unfolding certify_pipe_plan
 certify_told told name v a (inl failed) none = absurd (high a 3 _ failed.1 (lit≤ tt) (omega (arith, none)))
@@ -64,10 +64,10 @@ control_refusal name terms a (inl mixed) = refusal a 5 _ (lit≤ tt) mixed.told
 control_refusal name terms a (inr over) = refusal a 5 _ (lit≤ tt) over.told
 
 -- `recheck` reports that it accepts the certificate, or refuses
-abbrev pub Rechecked : Variant → Option (Option (List ℕ)) → Option (Option (List ℕ)) → Answer → Type 0
+abbrev pub Rechecked : Variant → Known → Known → Answer → Type 0
 Rechecked v told told_cert a = ((file : HasCertified v told told_cert) × (a ≡ done 0 (holds_line file.settings))) ⊎ IsRefusal a
 
-recheck_told : (told : List ℕ → Option (Option (List ℕ))) (name cert : List ℕ) (v : Variant) (a : Answer) → MayBeAnswer told (recheck_plan name cert v) a →
+recheck_told : (told : List ℕ → Known) (name cert : List ℕ) (v : Variant) (a : Answer) → MayBeAnswer told (recheck_plan name cert v) a →
     Rechecked v (told name) (told cert) a
 unfolding recheck_plan certificate_plan
 recheck_told told name cert v a (inl failed) = inr (refusal a 3 _ (lit≤ tt) failed.1)
@@ -96,21 +96,21 @@ recheck_told told name cert v a (inr (inr (text, has, short, inl (terms, design,
 recheck_told told name cert v a (inr (inr (text, has, short, inl (terms, design, inl (atoms, are, inr (inr (bytes, has_cert, short_cert, inr (inr refuses)))))))) =
     inr (refusal a 5 _ (lit≤ tt) refuses.told)
 
-recheck_whole : (v : Variant) (told told_cert : Option (Option (List ℕ))) (a : Answer) (before after : SinkState) → Rechecked v told told_cert a → a.status ≡ 0 →
+recheck_whole : (v : Variant) (told told_cert : Known) (a : Answer) (before after : SinkState) → Rechecked v told told_cert a → a.status ≡ 0 →
     Appended before.taken after.taken a.out → ToldCertified v told told_cert before after
 recheck_whole v told told_cert a before after (inl said) none took =
     record { file = said.0; line = subst (Appended before.taken after.taken) (ap (λ (x : Answer). x.out) said.1) took }
 recheck_whole v told told_cert a before after (inr r) none took =
     let same : a.status ≡ r.status = ap (λ (x : Answer). x.status) r.is in absurd (omega (arith, same, none, r.large))
 
-recheck_part : (v : Variant) (told told_cert : Option (Option (List ℕ))) (a : Answer) (before after : SinkState) → Rechecked v told told_cert a →
+recheck_part : (v : Variant) (told told_cert : Known) (a : Answer) (before after : SinkState) → Rechecked v told told_cert a →
     AppendedPrefix before.taken after.taken a.out → ToldCertifiedPart v told told_cert before after
 recheck_part v told told_cert a before after (inl said) took =
     record { file = said.0; part = subst (AppendedPrefix before.taken after.taken) (ap (λ (x : Answer). x.out) said.1) took }
 recheck_part v told told_cert a before after (inr r) took =
     let none : length a.out ≡ 0 = ap (λ (x : Answer). length x.out) r.is in absurd (omega (arith, took.1, none))
 
-recheck_not_one : (v : Variant) (told told_cert : Option (Option (List ℕ))) (a : Answer) → Rechecked v told told_cert a → a.status ≡ 1 → ⊥
+recheck_not_one : (v : Variant) (told told_cert : Known) (a : Answer) → Rechecked v told told_cert a → a.status ≡ 1 → ⊥
 recheck_not_one v told told_cert a (inl said) one = let same : a.status ≡ 0 = ap (λ (x : Answer). x.status) said.1 in omega (arith, same, one)
 recheck_not_one v told told_cert a (inr r) one =
     let same : a.status ≡ r.status = ap (λ (x : Answer). x.status) r.is in omega (arith, same, one, r.large)

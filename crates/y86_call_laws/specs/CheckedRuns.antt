@@ -1,5 +1,5 @@
 -- What an answer to `check`, or to `psim` after a check, means for the run of instructions.
-use Rattle.std.specs.Prelude.{◌≡◌, ℕ, codes, Bool, true, List, ◌++◌, length, Option, Ok}
+use Rattle.std.specs.Prelude.{◌≡◌, ℕ, codes, Bool, true, List, ◌++◌, length, Ok}
 use Rattle.cert_log.specs.Files.{IsCertificate, holds_line}
 use Rattle.control_check.specs.PipeVerdicts.{AcceptsPipe, RefinesPipe}
 use Rattle.dp_signals.specs.PipeRun.{PipeHistory, ended_by_status}
@@ -22,7 +22,7 @@ use Rattle.seq_plus.specs.Datapaths.{rows_of}
 use Rattle.seq_plus_check.specs.Verdicts.{Accepts, Refines}
 use Rattle.cli_plans.specs.Designs.{IsDesign}
 use Rattle.cli_plans.specs.PlanFollowing.{SinkState}
-use Rattle.cli_plans.specs.Plan.{Answer}
+use Rattle.cli_plans.specs.Plan.{Answer, Known}
 use Rattle.cli_runs.specs.PipeRuns.{RunsTo, end_of, run_text}
 use Rattle.hcl_types.specs.declared.table.SequentialDatapath.{SequentialDatapath}
 
@@ -30,7 +30,7 @@ use Rattle.hcl_types.specs.declared.table.SequentialDatapath.{SequentialDatapath
 -- bound and ordered; the design satisfies every obligation at its settings. So on every image whose instructions fetch
 -- no byte that one of the three before them stored, its pipeline agrees with the run of instructions after each number
 -- of cycles.
-pub record HasAccepted (v : Variant) (told : Option (Option (List ℕ))) : Type 0 where
+pub record HasAccepted (v : Variant) (told : Known) : Type 0 where
   pub text : List ℕ
   pub has : HasBytes told text
   pub terms : List Term
@@ -41,7 +41,7 @@ pub record HasAccepted (v : Variant) (told : Option (Option (List ℕ))) : Type 
 
 -- The same for a sequential datapath: on every image its machine is that of the run of instructions after each number
 -- of cycles.
-pub record HasAcceptedSeq (which : SequentialDatapath) (v : Variant) (told : Option (Option (List ℕ))) : Type 0 where
+pub record HasAcceptedSeq (which : SequentialDatapath) (v : Variant) (told : Known) : Type 0 where
   pub text : List ℕ
   pub has : HasBytes told text
   pub terms : List Term
@@ -50,16 +50,16 @@ pub record HasAcceptedSeq (which : SequentialDatapath) (v : Variant) (told : Opt
   pub refines : Refines which v terms
 
 -- An accepted file, whose settings were printed: the text on standard output is the line of a `yes`.
-pub record ToldAccepted (v : Variant) (told : Option (Option (List ℕ))) (before after : SinkState) : Type 0 where
+pub record ToldAccepted (v : Variant) (told : Known) (before after : SinkState) : Type 0 where
   pub file : HasAccepted v told
   pub line : Appended before.taken after.taken (pipe_yes file.settings)
 
-pub record ToldAcceptedSeq (which : SequentialDatapath) (v : Variant) (told : Option (Option (List ℕ))) (before after : SinkState) : Type 0 where
+pub record ToldAcceptedSeq (which : SequentialDatapath) (v : Variant) (told : Known) (before after : SinkState) : Type 0 where
   pub file : HasAcceptedSeq which v told
   pub line : Appended before.taken after.taken (codes "yes\n")
 
 -- A file was accepted, and a certificate of its design at its settings was written on standard output.
-pub record WroteCertificate (v : Variant) (told : Option (Option (List ℕ))) (before after : SinkState) : Type 0 where
+pub record WroteCertificate (v : Variant) (told : Known) (before after : SinkState) : Type 0 where
   pub file : HasAccepted v told
   pub text : List ℕ
   pub certificate : IsCertificate v file.terms file.settings text
@@ -67,12 +67,12 @@ pub record WroteCertificate (v : Variant) (told : Option (Option (List ℕ))) (b
 
 -- A certificate of a file was accepted, and its settings were printed: the text on standard output is the line with
 -- them.
-pub record ToldCertified (v : Variant) (told told_cert : Option (Option (List ℕ))) (before after : SinkState) : Type 0 where
+pub record ToldCertified (v : Variant) (told told_cert : Known) (before after : SinkState) : Type 0 where
   pub file : HasCertified v told told_cert
   pub line : Appended before.taken after.taken (holds_line file.settings)
 
 -- The same if a write on standard output failed: a proper prefix of the line was written.
-pub record ToldCertifiedPart (v : Variant) (told told_cert : Option (Option (List ℕ))) (before after : SinkState) : Type 0 where
+pub record ToldCertifiedPart (v : Variant) (told told_cert : Known) (before after : SinkState) : Type 0 where
   pub file : HasCertified v told told_cert
   pub part : AppendedPrefix before.taken after.taken (holds_line file.settings)
 
@@ -88,7 +88,7 @@ pub record PrintsTheRun (v : Variant) (image : List ℕ) (trace : Bool) (p : Pip
 -- A file was accepted, and an image ran on it: after the `yes` come the trace, the counts and the report. They agree
 -- with the run of instructions if none of the first instructions, as many as there were cycles, fetches a byte that one
 -- of the three before it stored.
-pub record CheckedRunIsRight (v : Variant) (size limit : ℕ) (trace : Bool) (hcl object : Option (Option (List ℕ))) (before after : SinkState) (status : ℕ) : Type 0 where
+pub record CheckedRunIsRight (v : Variant) (size limit : ℕ) (trace : Bool) (hcl object : Known) (before after : SinkState) (status : ℕ) : Type 0 where
   pub file : HasAccepted v hcl
   pub bytes : List ℕ
   pub has : HasBytes object bytes
@@ -102,7 +102,7 @@ pub record CheckedRunIsRight (v : Variant) (size limit : ℕ) (trace : Bool) (hc
   pub agrees : NearPure v image cycles → PrintsTheRun v image trace end
 
 -- A file was refused, and nothing ran: the `no` was printed.
-pub record AnsweredNo (v : Variant) (hcl : Option (Option (List ℕ))) (before after : SinkState) (status : ℕ) : Type 0 where
+pub record AnsweredNo (v : Variant) (hcl : Known) (before after : SinkState) (status : ℕ) : Type 0 where
   pub text : List ℕ
   pub has : HasBytes hcl text
   pub terms : List Term
