@@ -4,7 +4,7 @@ use Rattle.hcl_types.specs.declared.term.Term.{Term}
 use Rattle.y86_base.specs.declared.parts.Variant.{Variant}
 use Rattle.cli_checks.specs.Sequential.{no_text}
 use Rattle.seq_plus.specs.Datapaths.{rows_of}
-use Rattle.seq_plus_check.specs.Verdicts.{Accepts, Refines, Rejects}
+use Rattle.seq_check.specs.Verdicts.{Accepts, Refines, Rejects}
 use Rattle.cli_plans.specs.Plan.{Answer, done}
 use Rattle.hcl_types.specs.declared.table.SequentialDatapath.{SequentialDatapath}
 use Rattle.cli_verdicts.specs.Verdicts.{AnswersYesPipe, RefusesControl, RefusesPipe}

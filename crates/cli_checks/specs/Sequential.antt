@@ -6,8 +6,8 @@ use Rattle.dp_signals.specs.SeqTable.{seq_rows}
 use Rattle.hcl_types.specs.Tables.{row_names}
 use Rattle.hcl_types.specs.declared.term.Term.{Term}
 use Rattle.seq_plus.specs.PlusTable.{plus_rows}
-use Rattle.seq_plus_check.specs.Fields.{Fields, fields_of}
-use Rattle.seq_plus_check.specs.Verdicts.{Accepts, Refines, Rejects}
+use Rattle.seq_check.specs.Fields.{Fields, fields_of}
+use Rattle.seq_check.specs.Verdicts.{Accepts, Refines, Rejects}
 use Rattle.verdict_text.specs.SeqLine.{plus_no, seq_no}
 use Rattle.y86_base.specs.declared.parts.Variant.{Variant}
 use Rattle.hcl_types.specs.declared.table.SequentialDatapath.{SequentialDatapath}

@@ -11,7 +11,7 @@ use ctl_atoms::Atom;
 use ctl_verdicts::CheckFault;
 use hcl_types::{BoundDesign, Row, SequentialDatapath};
 use nets::Valuation;
-use seq_plus_check::{SeqVerdict, check_seq};
+use seq_check::{SeqVerdict, check_seq};
 use std::alloc::Global;
 use verdict_text::{plus_refusal, seq_refusal};
 use y86_base::{Items, Memory, Variant};
@@ -54,7 +54,7 @@ pub fn decided(
 }
 
 /// The text of a `no`, by the rows of the datapath's table and the design's atoms.
-#[tactic(auto, unfolding(seq_plus_check::specs::Fields::fields_of, seq_obligations::specs::Fields::line_at))]
+#[tactic(auto, unfolding(seq_check::specs::Fields::fields_of, seq_obligations::specs::Fields::line_at))]
 fn refusal(
     alloc: Global,
     which: SequentialDatapath,

@@ -1,5 +1,5 @@
 //! The verdict on an HCL file for PIPE: whether a design meets every obligation at every control valuation. Those on
-//! files for SEQ and SEQ+ are in `seq_plus_check`.
+//! files for SEQ and SEQ+ are in `seq_check`.
 #![tactic(auto)]
 
 mod accepted;

@@ -8,7 +8,7 @@ use Rattle.control_values.specs.Given.{AreNear}
 use Rattle.net_fields.specs.FieldSpecs.{total}
 use Rattle.findings.specs.Findings.{are_right, finding}
 use Rattle.findings.proofs.EachMet.{demand_false, findings_right}
-use Rattle.seq_plus_check.specs.Datapaths.{allowed_of, defined_of, demand_of, spots_of}
+use Rattle.seq_check.specs.Datapaths.{allowed_of, defined_of, demand_of, spots_of}
 use Rattle.seq_requirements.specs.Requirements.{requirements}
 use Rattle.hcl_types.specs.declared.table.SequentialDatapath.{SequentialDatapath}
 use Rattle.hcl_types.specs.declared.table.SequentialDatapath.TheVariants.{Seq, SeqPlus}

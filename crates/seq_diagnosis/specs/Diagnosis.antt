@@ -10,7 +10,7 @@ use Rattle.control_values.specs.Given.{assigned, at, field_at}
 use Rattle.net_fields.specs.FieldSpecs.{decoded, total}
 use Rattle.findings.specs.Findings.{are_right, finding}
 use Rattle.seq_plus.specs.Datapaths.{rows_of}
-use Rattle.seq_plus_check.specs.Datapaths.{defined_of, questions_of, spots_of}
+use Rattle.seq_check.specs.Datapaths.{defined_of, questions_of, spots_of}
 use Rattle.seq_requirements.specs.Requirements.{requirements}
 use Rattle.hcl_types.specs.declared.table.SequentialDatapath.{SequentialDatapath}
 use Rattle.seq_diagnosis.specs.declared.diagnosis.Diagnosis.{Diagnosis}

@@ -5,15 +5,15 @@ ghost use Rattle.ctl_atoms.specs.Atoms.{AreAtoms};
 ghost use Rattle.ctl_equations.specs.Controls.{AreControls};
 ghost use Rattle.control_values.specs.Given.{at, field_at};
 ghost use Rattle.seq_plus.specs.Datapaths.{rows_of};
-ghost use Rattle.seq_plus_check.specs.Datapaths.{spots_of};
+ghost use Rattle.seq_check.specs.Datapaths.{spots_of};
 ghost use Rattle.seq_diagnosis.specs.Diagnosis as spec;
 
 use crate::file::SeqFile;
 use control_values::{Scope, Situation, control_values};
 use ctl_atoms::{Atom, Leaf};
 use findings::{Finding, findings_of};
+use seq_check::{bit_count, first_defined, spots_of};
 use seq_plus::table_of;
-use seq_plus_check::{bit_count, first_defined, spots_of};
 use seq_requirements::requirements_of;
 use std::alloc::Global;
 use y86_base::{Items, Memory};

@@ -1,5 +1,5 @@
 //! SEQ+, the sequential datapath that computes the PC as a cycle begins, from the values that the previous instruction
-//! left (CS:APP 3e, section 4.5.1): its table of signals, its state, its machine and its runs. `seq_plus_check` has
+//! left (CS:APP 3e, section 4.5.1): its table of signals, its state, its machine and its runs. `seq_check` has
 //! what an HCL file for SEQ+ has to meet.
 #![tactic(auto)]
 

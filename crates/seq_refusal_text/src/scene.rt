@@ -6,8 +6,8 @@ ghost use Rattle.hcl_types.specs.declared.table.SequentialDatapath.TheVariants a
 use explanations::{Obligation, obligation_at};
 use finding_text::{ExplainedFile, Values, first_alone, put_wrong};
 use hcl_types::{Datapath, NameId, SequentialDatapath};
+use seq_check::{bit_count, first_defined};
 use seq_diagnosis::{Refusal, Refutation};
-use seq_plus_check::{bit_count, first_defined};
 use seq_requirements::{PreviousNow, previous_of};
 use std::alloc::{AllocError, Global};
 

@@ -22,9 +22,9 @@ use Rattle.ctl_verdicts.specs.declared.decision.FailedRule.{FailedRule}
 use Rattle.ctl_verdicts.proofs.Answered.{verdict_by}
 use Rattle.ctl_verdicts.proofs.Decided.{no_rule}
 use Rattle.seq_plus.specs.Datapaths.{rows_of}
-use Rattle.seq_plus_check.proofs.Decided.{own_rules}
-use Rattle.seq_plus_check.specs.Datapaths.{questions_of, spots_of}
-use Rattle.seq_plus_check.specs.Rules.{AreRulesOf}
+use Rattle.seq_check.proofs.Decided.{own_rules}
+use Rattle.seq_check.specs.Datapaths.{questions_of, spots_of}
+use Rattle.seq_check.specs.Rules.{AreRulesOf}
 use Rattle.hcl_types.specs.declared.table.SequentialDatapath.{SequentialDatapath}
 use Rattle.seq_diagnosis.specs.Diagnosis as diagnosis
 use Rattle.seq_diagnosis.specs.declared.refusal.Refutation.{Refutation}

@@ -15,8 +15,8 @@ use Rattle.bdd_decide.specs.Decisions.{IsLeastOf}
 use Rattle.seq_obligations.specs.Obligations.{rule_count}
 use Rattle.ctl_verdicts.specs.ObligationSet.{IsFalseAtBits}
 use Rattle.seq_plus.specs.Datapaths.{rows_of}
-use Rattle.seq_plus_check.specs.Datapaths.{questions_of, spots_of}
-use Rattle.seq_plus_check.specs.Verdicts.{Accepts, Rejects}
+use Rattle.seq_check.specs.Datapaths.{questions_of, spots_of}
+use Rattle.seq_check.specs.Verdicts.{Accepts, Rejects}
 use Rattle.hcl_types.specs.declared.table.SequentialDatapath.{SequentialDatapath}
 use Rattle.findings.specs.Rising.{RiseWithin}
 use Rattle.seq_diagnosis.specs.Diagnosis.{IsDiagnosis}

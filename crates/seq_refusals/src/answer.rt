@@ -3,8 +3,8 @@ ghost use Rattle.std.specs.Prelude.{◌≡◌, ◌≤◌, ◌<◌, ◌+◌, ◌�
 ghost use Rattle.hcl_types.specs.Tables.{IsBound, IsOrderOf};
 ghost use Rattle.ctl_atoms.specs.Atoms.{AreAtoms};
 ghost use Rattle.seq_plus.specs.Datapaths.{rows_of};
-ghost use Rattle.seq_plus_check.specs.Rules.{AreRulesOf};
-ghost use Rattle.seq_plus_check.specs.Verdicts.{Refines};
+ghost use Rattle.seq_check.specs.Rules.{AreRulesOf};
+ghost use Rattle.seq_check.specs.Verdicts.{Refines};
 ghost use Rattle.ctl_verdicts.specs.Decisions.{IsRuleDecision};
 ghost use Rattle.ctl_verdicts.specs.ObligationSet.{IsFault};
 ghost use Rattle.seq_refusals.specs.Answered as spec;
@@ -14,8 +14,8 @@ use ctl_rules::{Rule, Rules};
 use ctl_verdicts::{CheckFault, FailedRule, check_fault, decide};
 use hcl_types::{OrderedDesign, SequentialDatapath};
 use nets::Net;
+use seq_check::rules_of;
 use seq_diagnosis::{Refusal, Refutation, SeqFile, diagnose};
-use seq_plus_check::rules_of;
 use std::alloc::Global;
 use y86_base::{Items, Memory, Variant, push};
 

@@ -21,9 +21,9 @@ use Rattle.seq_obligations.specs.Fields as seq
 use Rattle.seq_obligations.specs.Obligations.{demand_at as seq_demand_at, faulted, rule_count, shared_demand, shared_demands}
 use Rattle.dp_signals.specs.declared.sequential_rows.SignalRows.{SignalRows}
 use Rattle.seq_plus.specs.PlusNames as plus_row
-use Rattle.seq_plus_check.specs.Fields as plus
-use Rattle.seq_plus_check.specs.Obligations.{demand_at as plus_demand_at}
-use Rattle.seq_plus_check.specs.Datapaths.{line_of, signals_of}
+use Rattle.seq_check.specs.Fields as plus
+use Rattle.seq_check.specs.Obligations.{demand_at as plus_demand_at}
+use Rattle.seq_check.specs.Datapaths.{line_of, signals_of}
 use Rattle.seq_requirements.specs.Requirements.{IsByRequirements, row_of, shared_required, shared_requirements}
 use Rattle.hcl_types.specs.declared.table.SequentialDatapath.{SequentialDatapath}
 use Rattle.hcl_types.specs.declared.table.SequentialDatapath.TheVariants.{Seq, SeqPlus}

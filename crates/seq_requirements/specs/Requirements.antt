@@ -21,8 +21,8 @@ use Rattle.seq_obligations.specs.Fields.{Fields}
 use Rattle.seq_obligations.specs.Obligations as seq_rule
 use Rattle.dp_signals.specs.declared.sequential_rows.SignalRows.{SignalRows}
 use Rattle.seq_plus.specs.PlusNames as plus_row
-use Rattle.seq_plus_check.specs.Fields as plus
-use Rattle.seq_plus_check.specs.Datapaths.{demand_of, line_of, signals_of}
+use Rattle.seq_check.specs.Fields as plus
+use Rattle.seq_check.specs.Datapaths.{demand_of, line_of, signals_of}
 use Rattle.hcl_types.specs.declared.table.SequentialDatapath.{SequentialDatapath}
 use Rattle.hcl_types.specs.declared.table.SequentialDatapath.TheVariants.{Seq, SeqPlus}
 

@@ -1,8 +1,8 @@
 //! The fields of a valuation as numbers.
 ghost use Rattle.std.specs.Prelude.{◌≡◌};
 ghost use Rattle.net_fields.specs.FieldSpecs.{decoded};
-ghost use Rattle.seq_plus_check.specs.Fields as plus;
-ghost use Rattle.seq_plus_check.specs.Datapaths as spec;
+ghost use Rattle.seq_check.specs.Fields as plus;
+ghost use Rattle.seq_check.specs.Datapaths as spec;
 ghost use Rattle.seq_requirements.specs.Lines.{fields_in};
 
 use control_values::number_at;

@@ -2,7 +2,7 @@
 ghost use Rattle.std.specs.Prelude.{◌≡◌, ◌++◌, ◌∷◌, [], IfOk, OnOk, if◌then◌else◌};
 ghost use Rattle.net_fields.specs.FieldSpecs.{decoded};
 ghost use Rattle.ctl_rules.specs.ColumnDemands.{next_leaf as spec_next_leaf};
-ghost use Rattle.seq_plus_check.specs.Datapaths.{spots_of};
+ghost use Rattle.seq_check.specs.Datapaths.{spots_of};
 ghost use Rattle.seq_requirements.specs.Lines.{fields_in};
 ghost use Rattle.seq_requirements.specs.Requirements as spec;
 
@@ -15,9 +15,9 @@ use findings::{
     register_number, set,
 };
 use hcl_types::{NameId, SequentialDatapath};
+use seq_check::signals_of;
 use seq_obligations::RULE_COUNT;
 use seq_plus::row::{self as plus_row, PLUS};
-use seq_plus_check::signals_of;
 use std::alloc::Global;
 use y86_base::{Memory, Variant};
 use y86_isa::{NextPcColumn, Row, has_operand_a, is_load, is_store, row};

@@ -6,7 +6,7 @@ use Rattle.control_check.specs.PipeVerdicts.{RefinesPipe}
 use Rattle.pipe_refusals.specs.Answered.{IsAnswer, is_yes}
 use Rattle.pipe_refusals.specs.declared.answer.PipeAnswer.{PipeAnswer}
 use Rattle.hcl_types.specs.declared.table.SequentialDatapath.{SequentialDatapath}
-use Rattle.seq_plus_check.specs.Verdicts.{Refines}
+use Rattle.seq_check.specs.Verdicts.{Refines}
 use Rattle.seq_refusals.specs.Answered as seq
 use Rattle.seq_refusals.specs.declared.answer.SeqAnswer as seq_answer
 

@@ -2,7 +2,7 @@
 ghost use Rattle.std.specs.Prelude.{◌≡◌, ◌↔◌, IfOk, true};
 ghost use Rattle.hcl_types.specs.Tables.{IsBoundDesign};
 ghost use Rattle.seq_plus.specs.Datapaths.{rows_of};
-ghost use Rattle.seq_plus_check.specs.Verdicts.{Refines};
+ghost use Rattle.seq_check.specs.Verdicts.{Refines};
 ghost use Rattle.seq_refusals.specs.Answered.{is_yes};
 ghost use Rattle.tell_checks.specs.Explained.{SeqAnswers};
 

@@ -19,8 +19,8 @@ use Rattle.cli_checks.specs.Checks.{AnswersNoSeq, PipeChecks, SeqChecks}
 use Rattle.cli_verdicts.specs.Verdicts.{AnswersYesPipe, AnswersNoPipe, RefusesControl, RefusesPipe}
 use Rattle.cli_checks.specs.Sequential.{no_text}
 use Rattle.seq_plus.specs.Datapaths.{rows_of}
-use Rattle.seq_plus_check.specs.Datapaths.{questions_of}
-use Rattle.seq_plus_check.specs.Verdicts.{Accepts, Rejects}
+use Rattle.seq_check.specs.Datapaths.{questions_of}
+use Rattle.seq_check.specs.Verdicts.{Accepts, Rejects}
 use Rattle.cli_plans.specs.Lines.{blank_names, names_at, names_line}
 use Rattle.cli_plans.specs.Plan.{Answer, done, refused}
 use Rattle.hcl_types.specs.declared.table.SequentialDatapath.{SequentialDatapath}

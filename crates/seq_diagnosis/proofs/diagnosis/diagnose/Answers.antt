@@ -8,7 +8,7 @@ use Rattle.findings.specs.Findings.{are_right, finding}
 use Rattle.findings.specs.declared.requirement.Requirement.{Requirement}
 use Rattle.findings.proofs.EachMet.{atoms_given}
 use Rattle.seq_plus.specs.Datapaths.{rows_of}
-use Rattle.seq_plus_check.specs.Datapaths.{defined_of, spots_of}
+use Rattle.seq_check.specs.Datapaths.{defined_of, spots_of}
 use Rattle.seq_requirements.specs.Requirements.{requirements}
 use Rattle.seq_diagnosis.specs.Diagnosis.{numbers_at, truths_at}
 use Rattle.seq_diagnosis.proofs.OneWrong.{one_wrong}

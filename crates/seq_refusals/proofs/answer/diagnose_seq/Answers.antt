@@ -2,7 +2,7 @@ use Rattle.std.proofs.Common.{List, None, Some, sym, subst}
 use Rattle.ctl_rules.specs.declared.rules.Rule.{Rule}
 use Rattle.seq_plus.specs.Datapaths.{rows_of}
 use Rattle.ctl_verdicts.specs.Decisions.{HaveGatesOfNet, IsRuleDecision}
-use Rattle.seq_plus_check.proofs.Decided.{accepts, gates_of, refines}
+use Rattle.seq_check.proofs.Decided.{accepts, gates_of, refines}
 use Rattle.seq_refusals.proofs.answer.diagnose_seq.Goals as goal
 
 pub decide-requires : goal.decide-requires

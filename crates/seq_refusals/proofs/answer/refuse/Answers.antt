@@ -1,8 +1,8 @@
 use Rattle.std.proofs.Common.{◌≤◌, ◌∷◌, ℕ, List, length, sym, subst}
 use Rattle.nets.specs.declared.evaluation.Valuation.{Valuation}
 use Rattle.seq_diagnosis.specs.declared.refusal.Refutation.{Refutation}
-use Rattle.seq_plus_check.proofs.Decided.{rejects}
-use Rattle.seq_plus_check.specs.Verdicts.{Rejects}
+use Rattle.seq_check.proofs.Decided.{rejects}
+use Rattle.seq_check.specs.Verdicts.{Rejects}
 use Rattle.seq_refusals.specs.Answered.{AreRefuted}
 use Rattle.seq_refusals.proofs.Refuting.{count_is, failure_first, first_refuted, within_list}
 use Rattle.seq_refusals.proofs.answer.refuse.Goals as goal

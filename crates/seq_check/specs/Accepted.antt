@@ -13,8 +13,8 @@ use Rattle.net_fields.specs.FieldSpecs.{InRange}
 use Rattle.seq_plus.specs.PlusRun.{PlusRun, PlusEndIs}
 use Rattle.seq_plus.specs.PlusTable.{plus_rows}
 use Rattle.seq_plus.specs.declared.state.PlusState.{PlusState}
-use Rattle.seq_plus_check.specs.Fields.{Fields, number_of, numbers, spots}
-use Rattle.seq_plus_check.specs.Obligations.{obligation}
+use Rattle.seq_check.specs.Fields.{Fields, number_of, numbers, spots}
+use Rattle.seq_check.specs.Obligations.{obligation}
 
 -- each of the 16 obligations holds at every control valuation of the design: at all lines of fields, under every truth
 -- of the atoms, with the control values that the design's terms then have

@@ -3,8 +3,8 @@ use Rattle.std.proofs.lemmas.Result.{IfOk-weaker}
 use Rattle.ctl_picks.proofs.Inside.{inside_more}
 use Rattle.ctl_rules.proofs.Kept.{asked_as, asked_gate, asked_more, asked_two}
 use Rattle.seq_obligations.specs.Fields.{line_at}
-use Rattle.seq_plus_check.specs.Fields.{allowed, fields_of}
-use Rattle.seq_plus_check.proofs.rules.PlusRulesRuleFamily.fits.Goals as goal
+use Rattle.seq_check.specs.Fields.{allowed, fields_of}
+use Rattle.seq_check.proofs.rules.PlusRulesRuleFamily.fits.Goals as goal
 
 pub line_allowed-requires-clause-inside : goal.line_allowed-requires-clause-inside
 line_allowed-requires-clause-inside c = inside_more c.code_allowed.ensures.extends c.requires.inside

@@ -2,8 +2,8 @@ use Rattle.std.proofs.Common.{List, Some, None, sym, subst}
 use Rattle.ctl_rules.specs.declared.rules.Rule.{Rule}
 use Rattle.ctl_verdicts.specs.Decisions.{HaveGatesOfNet, IsRuleDecision}
 use Rattle.seq_plus.specs.Datapaths.{rows_of}
-use Rattle.seq_plus_check.proofs.Decided.{accepts, gates_of, refines, rejects}
-use Rattle.seq_plus_check.proofs.verdict.check_seq.Goals as goal
+use Rattle.seq_check.proofs.Decided.{accepts, gates_of, refines, rejects}
+use Rattle.seq_check.proofs.verdict.check_seq.Goals as goal
 
 pub decide-requires : goal.decide-requires
 decide-requires c =

@@ -1,7 +1,7 @@
 //! The fields of a valuation of SEQ+, and the rows and places of its signals.
 ghost use Rattle.std.specs.Prelude.{◌≡◌};
-ghost use Rattle.seq_plus_check.specs.Fields as spec;
-ghost use Rattle.seq_plus_check.specs.Rules.{places};
+ghost use Rattle.seq_check.specs.Fields as spec;
+ghost use Rattle.seq_check.specs.Rules.{places};
 
 use ctl_given::Place;
 use net_fields::FieldSpec;

@@ -1,7 +1,7 @@
 //! The sequential datapaths: the fields of their valuations, and the rows of their signals.
 ghost use Rattle.std.specs.Prelude.{◌≡◌};
 ghost use Rattle.net_fields.specs.FieldSpecs.{total};
-ghost use Rattle.seq_plus_check.specs.Datapaths as spec;
+ghost use Rattle.seq_check.specs.Datapaths as spec;
 
 use crate::fields::spots;
 use dp_signals::{SEQ, SignalRows, seq_row};

@@ -9,9 +9,9 @@ use Rattle.seq_obligations.specs.Designed.{shared_ready}
 use Rattle.seq_obligations.specs.Fields.{p_cnd, plus_bit_count}
 use Rattle.seq_plus.specs.PlusNames as signal
 use Rattle.seq_plus.specs.PlusTable.{plus_rows, plus_state, plus_hardware, plus_defined}
-use Rattle.seq_plus_check.specs.Fields.{fields_of, number_of}
-use Rattle.seq_plus_check.specs.Obligations.{signals}
-use Rattle.seq_plus_check.specs.Rules.{IsPlusReady, places}
+use Rattle.seq_check.specs.Fields.{fields_of, number_of}
+use Rattle.seq_check.specs.Obligations.{signals}
+use Rattle.seq_check.specs.Rules.{IsPlusReady, places}
 
 -- the signals of SEQ+'s table have control values
 pub ready_by : (vars : ℕ) (ctl : List Entry) → plus_bit_count ≤ vars → Covers plus_rows ctl → IsPlusReady vars ctl

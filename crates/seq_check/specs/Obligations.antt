@@ -10,7 +10,7 @@ use Rattle.ctl_rules.specs.ColumnDemands.{picks_some_leaf, next_leaf}
 use Rattle.seq_obligations.specs.Obligations.{rule_count, shared_demand}
 use Rattle.dp_signals.specs.declared.sequential_rows.SignalRows.{SignalRows}
 use Rattle.seq_plus.specs.PlusNames as signal
-use Rattle.seq_plus_check.specs.Fields.{Fields, allowed}
+use Rattle.seq_check.specs.Fields.{Fields, allowed}
 
 -- the rows of SEQ+'s signals
 abbrev pub signals : SignalRows

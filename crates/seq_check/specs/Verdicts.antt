@@ -6,13 +6,13 @@ use Rattle.ctl_atoms.specs.Atoms.{AreAtoms}
 use Rattle.ctl_atoms.specs.declared.leaf.Atom.{Atom}
 use Rattle.seq_refinement.specs.Accepted.{AcceptedSeq, RefinesSeq}
 use Rattle.ctl_verdicts.specs.ObligationSet.{IsLeastFalseOf}
-use Rattle.seq_plus_check.specs.Accepted.{AcceptedPlus, RefinesPlus}
+use Rattle.seq_check.specs.Accepted.{AcceptedPlus, RefinesPlus}
 use Rattle.seq_plus.specs.Datapaths.{rows_of}
-use Rattle.seq_plus_check.specs.Datapaths.{questions_of}
+use Rattle.seq_check.specs.Datapaths.{questions_of}
 use Rattle.hcl_types.specs.declared.table.SequentialDatapath.{SequentialDatapath}
 use Rattle.hcl_types.specs.declared.table.SequentialDatapath.TheVariants.{Seq, SeqPlus}
-use Rattle.seq_plus_check.specs.declared.verdict.SeqVerdict.{SeqVerdict}
-use Rattle.seq_plus_check.specs.declared.verdict.SeqVerdict.TheVariants.{Yes, No}
+use Rattle.seq_check.specs.declared.verdict.SeqVerdict.{SeqVerdict}
+use Rattle.seq_check.specs.declared.verdict.SeqVerdict.TheVariants.{Yes, No}
 
 -- each of the obligations holds at every control valuation of the design
 abbrev pub Accepted : SequentialDatapath → Variant → List Term → Type 0

@@ -4,8 +4,8 @@ ghost use Rattle.hcl_types.specs.Tables.{IsBound, IsOrderOf};
 ghost use Rattle.ctl_atoms.specs.Atoms.{AreAtoms, IsCtlFault};
 ghost use Rattle.ctl_verdicts.specs.ObligationSet.{IsFault};
 ghost use Rattle.seq_plus.specs.Datapaths.{rows_of};
-ghost use Rattle.seq_plus_check.specs.Rules.{AreRulesOf};
-ghost use Rattle.seq_plus_check.specs.Verdicts.{IsVerdictOn, Refines, is_yes};
+ghost use Rattle.seq_check.specs.Rules.{AreRulesOf};
+ghost use Rattle.seq_check.specs.Verdicts.{IsVerdictOn, Refines, is_yes};
 
 use crate::rules::plus_rules;
 use ctl_atoms::{Atom, CtlFault};

@@ -13,8 +13,8 @@ use Rattle.seq_obligations.specs.Rules.{AreDesignedRules, AreSeqRules}
 use Rattle.seq_obligations.specs.Signals.{IsReady, line_places, place}
 use Rattle.seq_plus.specs.PlusNames as signal
 use Rattle.seq_plus.specs.PlusTable.{plus_rows}
-use Rattle.seq_plus_check.specs.Fields.{fields_of, number_of, spots}
-use Rattle.seq_plus_check.specs.Obligations.{obligation, signals}
+use Rattle.seq_check.specs.Fields.{fields_of, number_of, spots}
+use Rattle.seq_check.specs.Obligations.{obligation, signals}
 use Rattle.hcl_types.specs.declared.table.SequentialDatapath.{SequentialDatapath}
 use Rattle.hcl_types.specs.declared.table.SequentialDatapath.TheVariants.{Seq, SeqPlus}
 

@@ -4,9 +4,9 @@ use Rattle.std.proofs.lemmas.Result.{IfOk-weaker}
 use Rattle.ctl_rules.proofs.Kept.{asked_as}
 use Rattle.seq_obligations.specs.Fields.{line_at}
 use Rattle.seq_obligations.specs.Obligations.{rule_count}
-use Rattle.seq_plus_check.specs.Fields.{fields_of}
-use Rattle.seq_plus_check.specs.Obligations.{demand_at}
-use Rattle.seq_plus_check.proofs.rules.PlusRulesRuleFamily.demand.Goals as goal
+use Rattle.seq_check.specs.Fields.{fields_of}
+use Rattle.seq_check.specs.Obligations.{demand_at}
+use Rattle.seq_check.proofs.rules.PlusRulesRuleFamily.demand.Goals as goal
 
 pub returns-clause-has_truth : goal.returns-clause-has_truth
 unfolding demand_at fields_of line_at

@@ -8,7 +8,7 @@ use Rattle.seq_refinement.specs.Cycle as seq
 use Rattle.seq_plus.specs.PlusEquations.{at_pc}
 use Rattle.seq_plus.specs.PlusNames as name
 use Rattle.seq_plus.specs.declared.state.PlusState.{PlusState}
-use Rattle.seq_plus_check.specs.Fields.{Fields}
+use Rattle.seq_check.specs.Fields.{Fields}
 
 -- the next PC of the cycle's instruction
 abbrev pub pc_behind : Variant → (ℕ → ℕ) → ℕ

@@ -16,13 +16,13 @@ use Rattle.ctl_verdicts.specs.Decisions.{HaveGatesOfNet, IsRuleDecision}
 use Rattle.ctl_verdicts.specs.ObligationSet.{AreRulesOfSet, IsFalseAtBits, MeetsObligationSet}
 use Rattle.ctl_verdicts.specs.declared.decision.FailedRule.{FailedRule}
 use Rattle.ctl_verdicts.proofs.Answered.{verdict_by}
-use Rattle.seq_plus_check.proofs.Runs.{refines as plus_refines}
+use Rattle.seq_check.proofs.Runs.{refines as plus_refines}
 use Rattle.seq_plus.specs.Datapaths.{rows_of}
-use Rattle.seq_plus_check.specs.Datapaths.{questions_of}
-use Rattle.seq_plus_check.specs.Fields as plus
-use Rattle.seq_plus_check.specs.Fields.{fields_of as plus_fields_of}
-use Rattle.seq_plus_check.specs.Rules.{AreRulesOf}
-use Rattle.seq_plus_check.specs.Verdicts.{Accepted, Accepts, Refines, Rejects}
+use Rattle.seq_check.specs.Datapaths.{questions_of}
+use Rattle.seq_check.specs.Fields as plus
+use Rattle.seq_check.specs.Fields.{fields_of as plus_fields_of}
+use Rattle.seq_check.specs.Rules.{AreRulesOf}
+use Rattle.seq_check.specs.Verdicts.{Accepted, Accepts, Refines, Rejects}
 use Rattle.hcl_types.specs.declared.table.SequentialDatapath.{SequentialDatapath}
 use Rattle.hcl_types.specs.declared.table.SequentialDatapath.TheVariants.{Seq, SeqPlus}
 

@@ -60,13 +60,13 @@ use Rattle.seq_plus.specs.PlusTable.{plus_defined, plus_hardware, plus_rows, plu
 use Rattle.seq_plus.specs.declared.state.PlusState.{PlusState}
 use Rattle.seq_plus.proofs.PlusCycles.{updated}
 use Rattle.seq_plus.specs.PlusLaws.{plus_lawful}
-use Rattle.seq_plus_check.specs.Accepted.{AcceptedPlus, RefinesPlus}
-use Rattle.seq_plus_check.specs.Cycle.{fields_at, pc_behind}
-use Rattle.seq_plus_check.specs.Fields.{allowed, numbers, number_of, spots}
-use Rattle.seq_plus_check.specs.Obligations.{demand_at}
-use Rattle.seq_plus_check.specs.Rules.{places}
-use Rattle.seq_plus_check.specs.Designed.{places_stand}
-use Rattle.seq_plus_check.proofs.PlusRows.{hardware_rows}
+use Rattle.seq_check.specs.Accepted.{AcceptedPlus, RefinesPlus}
+use Rattle.seq_check.specs.Cycle.{fields_at, pc_behind}
+use Rattle.seq_check.specs.Fields.{allowed, numbers, number_of, spots}
+use Rattle.seq_check.specs.Obligations.{demand_at}
+use Rattle.seq_check.specs.Rules.{places}
+use Rattle.seq_check.specs.Designed.{places_stand}
+use Rattle.seq_check.proofs.PlusRows.{hardware_rows}
 
 -- ---- the next PC of the previous instruction
 

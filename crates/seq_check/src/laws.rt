@@ -4,7 +4,7 @@ ghost use Rattle.y86_base.specs.declared.parts.Variant.{Variant};
 ghost use Rattle.hcl_types.specs.Tables.{IsBound, IsOrderOf};
 ghost use Rattle.hcl_types.specs.declared.term.Term.{Term};
 ghost use Rattle.seq_plus.specs.PlusTable.{plus_rows};
-ghost use Rattle.seq_plus_check.specs.Accepted.{AcceptedPlus, RefinesPlus};
+ghost use Rattle.seq_check.specs.Accepted.{AcceptedPlus, RefinesPlus};
 
 /// A design for SEQ+ that meets its obligations at every control valuation runs as the instructions do: on every image,
 /// for every number of cycles.

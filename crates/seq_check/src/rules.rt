@@ -12,10 +12,10 @@ ghost use Rattle.seq_obligations.specs.Fields.{p_cnd, p_icode, plus_bit_count};
 ghost use Rattle.seq_plus.specs.PlusNames as signal;
 ghost use Rattle.seq_plus.specs.PlusTable.{plus_rows};
 ghost use Rattle.seq_plus.specs.Sound.{plus_sound};
-ghost use Rattle.seq_plus_check.specs.Designed.{places_stand, ready_by, spelt_at_places};
-ghost use Rattle.seq_plus_check.specs.Fields.{allowed, fields_of, goes_on, number_of};
-ghost use Rattle.seq_plus_check.specs.Obligations.{demand_at};
-ghost use Rattle.seq_plus_check.specs.Rules.{ArePlusRules, IsPlusReady, places};
+ghost use Rattle.seq_check.specs.Designed.{places_stand, ready_by, spelt_at_places};
+ghost use Rattle.seq_check.specs.Fields.{allowed, fields_of, goes_on, number_of};
+ghost use Rattle.seq_check.specs.Obligations.{demand_at};
+ghost use Rattle.seq_check.specs.Rules.{ArePlusRules, IsPlusReady, places};
 
 use crate::fields::places;
 use ctl_atoms::CtlFault;
