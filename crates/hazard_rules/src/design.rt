@@ -6,9 +6,9 @@ ghost use Rattle.dp_signals.specs.PipeTable.{pipe_rows};
 ghost use Rattle.hazard_rules.specs.Designs.{IsTranslated, places as spec_places};
 
 use ctl_atoms::{Atom, CtlFault, atoms};
-use ctl_picks::Controls;
-use ctl_given::Place;
 use ctl_formula::translate;
+use ctl_given::Place;
+use ctl_picks::Controls;
 use dp_signals::{pipe_row as row, pipe_table};
 use hcl_types::OrderedDesign;
 use nets::NetBuilder;

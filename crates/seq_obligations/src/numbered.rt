@@ -13,8 +13,8 @@ ghost use Rattle.ctl_rules.specs.ControlGates.{IsControlGate};
 ghost use Rattle.seq_obligations.specs.Obligations.{rule_count};
 ghost use Rattle.seq_obligations.specs.Rules.{AreNumbered};
 
-use ctl_picks::Controls;
 use ctl_given::Place;
+use ctl_picks::Controls;
 use ctl_rules::Rule;
 use hcl_types::Table;
 use nets::NetBuilder;
