@@ -16,7 +16,8 @@ use Rattle.y86_base.specs.declared.parts.Variant.{Variant}
 use Rattle.cli_verdicts.specs.Verdicts.{AnswersNoPipe, RefusesPipe}
 use Rattle.cli_plans.specs.Designs.{IsDesign}
 use Rattle.cli_plans.specs.Lines.{fault_line}
-use Rattle.cli_plans.specs.Plan.{Answer, Known, done, refused}
+use Rattle.cli_plans.specs.Known.{Known}
+use Rattle.cli_plans.specs.Plan.{Answer, done, refused}
 use Rattle.cli_plans.specs.Stops.{answer_at, status_of}
 use Rattle.cli_plans.specs.declared.stop_reason.StopReason as code
 use Rattle.cli_plans.specs.declared.stop_reason.StopReason.TheVariants.{Memory}

@@ -6,7 +6,8 @@ use Rattle.cli_plans.specs.declared.stop_reason.StopReason.TheVariants.{Usage, R
 use Rattle.cli_plans.specs.CallOutcome.{IsPermitted, IsReached, IsLostCall, LosesCall, CallOutcome}
 use Rattle.cli_plans.specs.PlanFollowing.{FilesState, SinkState, StopsAtRead, StopsReading, WritesAnswer, FollowsPlan}
 use Rattle.cli_plans.specs.Lines.{too_long_line}
-use Rattle.cli_plans.specs.Plan.{Answer, Plan, answer_in, reads, value_in, IsAnswerOf, ComesTo, HasContents, IsFaultless, refused, Known}
+use Rattle.cli_plans.specs.Known.{Known}
+use Rattle.cli_plans.specs.Plan.{Answer, Plan, answer_in, reads, value_in, IsAnswerOf, ComesTo, HasContents, IsFaultless, refused}
 use Rattle.cli_plans.specs.Stops.{answer_at}
 
 -- ---- a leaf

@@ -5,7 +5,8 @@ use Rattle.wb_io.specs.Files.{HasBytes, HasMore}
 use Rattle.cli_plans.specs.declared.stop_reason.StopReason as code
 use Rattle.cli_plans.specs.declared.stop_reason.StopReason.TheVariants.{Usage, Read, Write, Refused, Memory, TooLong}
 use Rattle.cli_plans.specs.PlanFollowing.{FilesState, IsStageResultIn, SinkState, IsLater, IsRead, NoReadFailed, IsReadResultIn, RefusesWith, StopsAtRead, StopsReading, WritesAnswer, FollowsPlan}
-use Rattle.cli_plans.specs.Plan.{Answer, Plan, value_from, answers, value_in, answer_in, reads, Known}
+use Rattle.cli_plans.specs.Known.{Known}
+use Rattle.cli_plans.specs.Plan.{Answer, Plan, value_from, answers, value_in, answer_in, reads}
 use Rattle.cli_plans.specs.Stops.{answer_at, status_of}
 
 fault_earlier : (first before now : ℕ) → before ≡ first → now ≡ counted before → now ≡ counted first

@@ -4,7 +4,8 @@ use Rattle.wb_io.specs.Causes.{counted}
 use Rattle.wb_io.specs.Sinks.{Appended, AppendedPrefix}
 use Rattle.cli_plans.specs.declared.stop_reason.StopReason as code
 use Rattle.cli_plans.specs.PlanFollowing.{FilesState, SinkState}
-use Rattle.cli_plans.specs.Plan.{Answer, Plan, IsAnswerOf, ComesTo, MayBeAnswer, MayComeTo, HasContents, Known}
+use Rattle.cli_plans.specs.Known.{Known}
+use Rattle.cli_plans.specs.Plan.{Answer, Plan, IsAnswerOf, ComesTo, MayBeAnswer, MayComeTo, HasContents}
 use Rattle.cli_plans.specs.Stops.{answer_at, read_name, status_of}
 
 -- an answer that is allowed for some contents that agree with what is known of the files, and for all contents that are

@@ -3,6 +3,7 @@ pub mod CallOutcome
 pub mod Datapaths
 pub mod Designs
 pub mod PlanFollowing
+pub mod Known
 pub mod Lines
 pub mod Plan
 pub mod Stages

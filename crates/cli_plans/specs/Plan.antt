@@ -2,6 +2,7 @@
 -- the end. The first stop decides.
 use Rattle.std.specs.Prelude.{◌≡◌, ◌⊎◌, ◌<◌, ◌≤◌, ℕ, List, [], ◌∷◌, length, Option, Some, None, IfSome, Result, Ok, Err}
 use Rattle.wb_io.specs.Files.{HasBytes, HasMore}
+use Rattle.cli_plans.specs.Known.{Known}
 use Rattle.cli_plans.specs.Lines.{read_fault_line, too_long_line}
 
 -- a status, a text on standard output and a text on standard error
@@ -51,10 +52,6 @@ ComesTo (reads name limit next) [] file = file ≡ name
 ComesTo (reads name limit next) (None ∷ rest) file = file ≡ name
 ComesTo (reads name limit next) (Some bytes ∷ rest) file = (file ≡ name) ⊎ ((length bytes ≤ limit) × ComesTo (next bytes) rest file)
 ComesTo (value_in {A} P E next) contents file = (x : A) × P x × ComesTo (next x) contents file
-
--- what is known of the bytes under one name: nothing, that the name has none, or all of them
-abbrev pub Known : Type 0
-Known = Option (Option (List ℕ))
 
 -- each file that the plan reaches is known to have these contents
 abbrev pub HasContents : (List ℕ → Known) → Plan → List (Option (List ℕ)) → Type 0

@@ -5,7 +5,8 @@ use Rattle.wb_io.specs.Files.{HasBytes, HasMore}
 use Rattle.wb_io.specs.Sinks.{Appended, AppendedPrefix}
 use Rattle.cli_plans.specs.declared.stop_reason.StopReason as code
 use Rattle.cli_plans.specs.declared.stop_reason.StopReason.TheVariants.{Write, Refused, Memory, Read, TooLong}
-use Rattle.cli_plans.specs.Plan.{Answer, Plan, value_in, answer_in, reads, Known}
+use Rattle.cli_plans.specs.Known.{Known}
+use Rattle.cli_plans.specs.Plan.{Answer, Plan, value_in, answer_in, reads}
 use Rattle.cli_plans.specs.Stops.{answer_at, status_of}
 
 -- the files: what is known of their contents, and for each name a count of failed reads

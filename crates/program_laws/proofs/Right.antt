@@ -27,7 +27,8 @@ use Rattle.cli_plans.specs.Stages.{image_of_text, run_status}
 use Rattle.cli_plans.specs.Designs.{IsDesign, RefusesDesign}
 use Rattle.cli_plans.specs.PlanFollowing.{FilesState, SinkState}
 use Rattle.cli_runs.specs.PipeRuns.{end_of, ran_line, run_text}
-use Rattle.cli_plans.specs.Plan.{Answer, Known, MayBeAnswer, value_from}
+use Rattle.cli_plans.specs.Known.{Known}
+use Rattle.cli_plans.specs.Plan.{Answer, MayBeAnswer, value_from}
 use Rattle.y86_cli.specs.CallContract.{CallContract}
 use Rattle.y86_call_laws.proofs.Agreement.{loads_ok}
 use Rattle.y86_call_laws.proofs.Bigs.{not_long, not_missing, not_refused, one_design, same_bytes}

@@ -9,7 +9,7 @@ ghost use Rattle.y86_base.specs.declared.parts.Variant.{Variant};
 ghost use Rattle.y86_isa.specs.Run.{IsImage, Pure};
 ghost use Rattle.yo_object.specs.ObjectText.{object_of};
 ghost use Rattle.y86_call_laws.specs.CheckedRuns.{HasAccepted};
-ghost use Rattle.cli_plans.specs.Plan.{Known};
+ghost use Rattle.cli_plans.specs.Known.{Known};
 ghost use Rattle.cli_plans.specs.PlanFollowing.{FilesState, SinkState};
 ghost use Rattle.y86_cli.specs.CallContract.{CallContract};
 ghost use Rattle.y86_words.specs.Forms.{form_of, psim, yis};

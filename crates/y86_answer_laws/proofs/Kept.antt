@@ -22,7 +22,8 @@ use Rattle.y86_cli.specs.Answers.{plan_in}
 use Rattle.cli_obligations.specs.Certified.{Rechecks, cert_fault_line, cert_limit}
 use Rattle.cli_plans.specs.Designs.{IsDesign}
 use Rattle.cli_plans.specs.PlanFollowing.{FilesState, SinkState}
-use Rattle.cli_plans.specs.Plan.{IsAnswerOf, Answer, HasContents, refused, Known}
+use Rattle.cli_plans.specs.Known.{Known}
+use Rattle.cli_plans.specs.Plan.{IsAnswerOf, Answer, HasContents, refused}
 use Rattle.y86_cli.specs.CallContract.{CallContract, DeliversOnBoth}
 use Rattle.cli_plans.specs.Calls.{WroteError}
 use Rattle.y86_call_laws.proofs.Agreement.{control_high, design_high, high}

@@ -26,7 +26,8 @@ use Rattle.cli_plans.specs.Designs.{IsDesign, RefusesDesign}
 use Rattle.cli_plans.specs.PlanFollowing.{FilesState, SinkState}
 use Rattle.y86_words.specs.Forms.{check_pipe, check_plus, check_seq, form_of, psim}
 use Rattle.cli_plans.specs.Lines.{object_fault_line}
-use Rattle.cli_plans.specs.Plan.{Answer, MayBeAnswer, value_from, done, refused, Known}
+use Rattle.cli_plans.specs.Known.{Known}
+use Rattle.cli_plans.specs.Plan.{Answer, MayBeAnswer, value_from, done, refused}
 use Rattle.cli_runs.specs.PipeRuns.{RunsFor, end_of, run_text}
 use Rattle.y86_cli.specs.CallContract.{CallContract, DeliversOnBoth}
 use Rattle.y86_words.proofs.Legal.{form_legal}

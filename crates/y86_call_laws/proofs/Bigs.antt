@@ -29,7 +29,8 @@ use Rattle.cli_runs.specs.Answers.{big_plan}
 use Rattle.cli_runs.specs.Big.{BigAnswers, AnsweredSame, big_line, big_status}
 use Rattle.cli_plans.specs.Designs.{IsDesign, RefusesDesign}
 use Rattle.cli_plans.specs.PlanFollowing.{FilesState, SinkState}
-use Rattle.cli_plans.specs.Plan.{Answer, Known, MayBeAnswer, done}
+use Rattle.cli_plans.specs.Known.{Known}
+use Rattle.cli_plans.specs.Plan.{Answer, MayBeAnswer, done}
 use Rattle.y86_cli.specs.CallContract.{CallContract}
 
 -- ---- the one design of a text

@@ -12,7 +12,8 @@ use Rattle.cli_obligations.specs.Answers.{certificate_plan, certify_pipe_plan, r
 use Rattle.cli_obligations.specs.Certified.{HasCertified}
 use Rattle.cli_verdicts.specs.Verdicts.{RefusesControl}
 use Rattle.cli_plans.specs.PlanFollowing.{FilesState, SinkState}
-use Rattle.cli_plans.specs.Plan.{Answer, Known, MayBeAnswer, done, refused}
+use Rattle.cli_plans.specs.Known.{Known}
+use Rattle.cli_plans.specs.Plan.{Answer, MayBeAnswer, done, refused}
 use Rattle.y86_cli.specs.CallContract.{CallContract}
 use Rattle.y86_call_laws.proofs.Agreement.{control_high, design_high, high}
 

@@ -22,7 +22,8 @@ use Rattle.seq_plus.specs.Datapaths.{rows_of}
 use Rattle.seq_check.specs.Verdicts.{Accepts, Refines}
 use Rattle.cli_plans.specs.Designs.{IsDesign}
 use Rattle.cli_plans.specs.PlanFollowing.{SinkState}
-use Rattle.cli_plans.specs.Plan.{Answer, Known}
+use Rattle.cli_plans.specs.Known.{Known}
+use Rattle.cli_plans.specs.Plan.{Answer}
 use Rattle.cli_runs.specs.PipeRuns.{RunsTo, end_of, run_text}
 use Rattle.hcl_types.specs.declared.table.SequentialDatapath.{SequentialDatapath}
 
