@@ -6,6 +6,6 @@ use Rattle.control_values.proofs.filling.control_values.Given as goal
 
 abbrev pub invariant-loop-id : goal.invariant-loop-id
 invariant-loop-id l =
-    let rule = control_rule l.rows l.d.terms (field_at l.s.fields.now l.s.bits.now) (assigned l.s.atoms.now l.s.first l.s.bits.now) in
+    let rule = control_rule l.rows l.ordered.design.terms (field_at l.s.fields.now l.s.bits.now) (assigned l.s.atoms.now l.s.first l.s.bits.now) in
     (length l.leaves.items ≡ length l.initial.leaves.items)
-    × (evaluated_along at slice_set rule l.leaves.items (drop l.id-index l.o.ids) ≡ evaluated_along at slice_set rule l.initial.leaves.items l.o.ids)
+    × (evaluated_along at slice_set rule l.leaves.items (drop l.id-index l.ordered.order.ids) ≡ evaluated_along at slice_set rule l.initial.leaves.items l.ordered.order.ids)

@@ -14,9 +14,9 @@ returns-in-Ok-clause-belong c =
     let made = c.in_ok-made.made in
     let k = c.early_formulas.ensures.extends in
     record {
-      names = subst (λ net. IsTranslated c.args.d.now.terms net made.ctl made.listed.items) (sym c.finish.ensures) (names_more k c.in_ok-made.ensures.has_truth);
-      settings = subst (λ net. AreEarlyGates c.args.v c.args.d.now.terms net gates.pt gates.pb gates.tv) (sym c.finish.ensures)
-          (closed_of c.args.v c.args.d.now.terms made.ctl _ gates.pt gates.pb gates.tv c.in_ok-made.ensures.has_truth k
+      names = subst (λ net. IsTranslated c.args.ordered.now.design.terms net made.ctl made.listed.items) (sym c.finish.ensures) (names_more k c.in_ok-made.ensures.has_truth);
+      settings = subst (λ net. AreEarlyGates c.args.v c.args.ordered.now.design.terms net gates.pt gates.pb gates.tv) (sym c.finish.ensures)
+          (closed_of c.args.v c.args.ordered.now.design.terms made.ctl _ gates.pt gates.pb gates.tv c.in_ok-made.ensures.has_truth k
           (subst (λ (xs : List Atom). ArePredictionGates c.args.v c.early_formulas.new.b made.ctl xs false gates.pt 7) e c.in-Ok.ensures.forward)
           (subst (λ (xs : List Atom). ArePredictionGates c.args.v c.early_formulas.new.b made.ctl xs true gates.pb 7) e c.in-Ok.ensures.backward)
           (λ s. subst (λ (xs : List Atom). IsTruthGate c.early_formulas.new.b made.ctl xs gates.tv (alu_passes_target c.args.v s)) e (c.in-Ok.ensures.target s)));
