@@ -18,7 +18,7 @@ LAW = "crates/y86_call_laws/src/laws.rt"
 CLAUSE = "check_pipe"
 # What a `yes` says beyond the claim, and so need not be read: how the checker decided, what the call printed, and the record of the call, which is a
 # premise of the law and a promise of `run`.
-BESIDE = {"AcceptsPipe", "Appended", "pipe_yes", "CallContract", "Settings"}
+BESIDE = {"AcceptsPipe", "Appended", "pipe_yes", "MeetsContract", "Settings"}
 
 BEGINS = re.compile(r"(?:(?:abbrev|unfoldable|record|data)(?: pub)?|(?:  )?pub (?:record|data)) ([^\s:(]+)")
 USE = re.compile(r"(?:pub |ghost )*use Rattle\.(\w+)\.specs\.([\w.]+?)(?:\.\{(.*)\}| as (\w+));?$")

@@ -19,6 +19,15 @@ pub record SinkState : Type 0 where
   pub taken : Option (List ℕ)
   pub faults : ℕ
 
+-- the files, standard output and standard error before and after a call
+pub record CallStates : Type 0 where
+  pub files_before : FilesState
+  pub files_after : FilesState
+  pub out_before : SinkState
+  pub out_after : SinkState
+  pub err_before : SinkState
+  pub err_after : SinkState
+
 abbrev pub files_state : (List ℕ → Known) → (List ℕ → ℕ) → FilesState
 files_state told faults = record { told = told; faults = faults }
 

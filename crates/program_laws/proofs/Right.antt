@@ -25,11 +25,11 @@ use Rattle.y86_call_laws.specs.CheckedRuns.{HasAccepted}
 use Rattle.cli_runs.specs.Answers.{PipeAnswers, checked_plan, pipe_plan, psim_plan, yis_plan, yis_run}
 use Rattle.cli_plans.specs.Stages.{image_of_text, run_status}
 use Rattle.cli_plans.specs.Designs.{IsDesign, RefusesDesign}
-use Rattle.cli_plans.specs.PlanFollowing.{FilesState, SinkState}
+use Rattle.cli_plans.specs.PlanFollowing.{CallStates}
 use Rattle.cli_runs.specs.PipeRuns.{end_of, ran_line, run_text}
 use Rattle.cli_plans.specs.Known.{Known}
 use Rattle.cli_plans.specs.Plan.{Answer, MayBeAnswer, value_from}
-use Rattle.y86_cli.specs.CallContract.{CallContract}
+use Rattle.y86_cli.specs.CallContract.{MeetsContract}
 use Rattle.y86_call_laws.proofs.Agreement.{loads_ok}
 use Rattle.y86_call_laws.proofs.Bigs.{not_long, not_missing, not_refused, one_design, same_bytes}
 use Rattle.y86_call_laws.proofs.Loaded.{loaded_is_image}
@@ -107,27 +107,27 @@ module _ (told : List ℕ → Known) (v : Variant) (size limit : ℕ) (trace : B
       let it : others ≡ terms = one_design pipe_rows text others terms (subst (λ (x : List ℕ). IsDesign pipe_rows x others) (sym one) other_design) design in
       object_right object a is_object short_object (subst (λ (x : List Term). MayBeAnswer told (pipe_plan [] x object size limit trace v) a) it answers)
 
-pub prints_run : (words : List (List ℕ)) (name object text bytes image : List ℕ) (size limit steps : ℕ) (trace : Bool) (v : Variant) (files_before files_after : FilesState)
-    (out_before out_after err_before err_after : SinkState) (status : ℕ) → form_of words ≡ Some (psim name object size limit trace false v) →
-    files_before.told name ≡ Some (Some text) → length text ≤ 65536 → HasAccepted v (Some (Some text)) →
-    files_before.told object ≡ Some (Some bytes) → length bytes ≤ 1048576 → object_of bytes size ≡ Ok image →
+pub prints_run : (words : List (List ℕ)) (name object text bytes image : List ℕ) (size limit steps : ℕ) (trace : Bool) (v : Variant) (call : CallStates) (status : ℕ) →
+    form_of words ≡ Some (psim name object size limit trace false v) →
+    call.files_before.told name ≡ Some (Some text) → length text ≤ 65536 → HasAccepted v (Some (Some text)) →
+    call.files_before.told object ≡ Some (Some bytes) → length bytes ≤ 1048576 → object_of bytes size ≡ Ok image →
     StopsIn v image steps → ((k : ℕ) → NearPure v image k) → 5 * steps ≤ limit →
-    CallContract (form_of words) files_before files_after out_before out_after err_before err_after status → status ≢ 3 → status ≢ 4 → status ≢ 6 →
-    PrintsRun v image steps trace out_before out_after status
-prints_run words name object text bytes image size limit steps trace v files_before files_after out_before out_after err_before err_after status is told short accepted told_object short_object loads stops near room ran
+    MeetsContract (form_of words) call status → status ≢ 3 → status ≢ 4 → status ≢ 6 →
+    PrintsRun v image steps trace call.out_before call.out_after status
+prints_run words name object text bytes image size limit steps trace v call status is told short accepted told_object short_object loads stops near room ran
     three four six =
     let legal : IsInRange (psim name object size limit trace false v) = form_legal words (psim name object size limit trace false v) is in
-    let ran_it : CallContract (Some (psim name object size limit trace false v)) files_before files_after out_before out_after err_before err_after status = rw is at ran in
+    let ran_it : MeetsContract (Some (psim name object size limit trace false v)) call status = rw is at ran in
     let given = ran_it.answer three six in
     let same : text ≡ accepted.text = same_bytes (Some (Some text)) text accepted.text refl accepted.has in
     let design : IsDesign pipe_rows text accepted.terms = subst (λ (x : List ℕ). IsDesign pipe_rows x accepted.terms) (sym same) accepted.design in
     let right : RightAnswer v image steps trace given.0 =
-    psim_right files_before.told v size limit trace bytes image steps loads stops near legal.2 room accepted.terms accepted.refines name object text given.0 told short told_object short_object design given.1.by_some in
+    psim_right call.files_before.told v size limit trace bytes image steps loads stops near legal.2 room accepted.terms accepted.refines name object text given.0 told short told_object short_object design given.1.by_some in
     record {
       cycles = right.cycles;
       in_time = right.in_time;
       status_is = given.2.status_is four ∙ right.status_is;
-      told = subst (λ (line : List ℕ). Appended out_before.taken out_after.taken line) right.out_is (given.2.out four);
+      told = subst (λ (line : List ℕ). Appended call.out_before.taken call.out_after.taken line) right.out_is (given.2.out four);
     }
 
 -- ---- the answer of `yis`
@@ -150,17 +150,17 @@ run_is : (v : Variant) (image : List ℕ) (steps limit : ℕ) → StopsIn v imag
 unfolding yis_run
 run_is v image steps limit stops le = rw (run_behind v image steps limit stops le, records_behind v image steps limit stops le) (refl, refl)
 
-pub prints_report : (words : List (List ℕ)) (object bytes image : List ℕ) (size limit steps : ℕ) (v : Variant) (files_before files_after : FilesState)
-    (out_before out_after err_before err_after : SinkState) (status : ℕ) → form_of words ≡ Some (yis object size limit v) →
-    files_before.told object ≡ Some (Some bytes) → length bytes ≤ 1048576 → object_of bytes size ≡ Ok image → StopsIn v image steps → steps ≤ limit →
-    CallContract (form_of words) files_before files_after out_before out_after err_before err_after status → status ≢ 3 → status ≢ 4 → status ≢ 6 →
-    PrintsReport v image steps out_before out_after status
-prints_report words object bytes image size limit steps v files_before files_after out_before out_after err_before err_after status is told short loads stops le ran three four six =
-    let ran_it : CallContract (Some (yis object size limit v)) files_before files_after out_before out_after err_before err_after status = rw is at ran in
+pub prints_report : (words : List (List ℕ)) (object bytes image : List ℕ) (size limit steps : ℕ) (v : Variant) (call : CallStates) (status : ℕ) →
+    form_of words ≡ Some (yis object size limit v) →
+    call.files_before.told object ≡ Some (Some bytes) → length bytes ≤ 1048576 → object_of bytes size ≡ Ok image → StopsIn v image steps → steps ≤ limit →
+    MeetsContract (form_of words) call status → status ≢ 3 → status ≢ 4 → status ≢ 6 →
+    PrintsReport v image steps call.out_before call.out_after status
+prints_report words object bytes image size limit steps v call status is told short loads stops le ran three four six =
+    let ran_it : MeetsContract (Some (yis object size limit v)) call status = rw is at ran in
     let given = ran_it.answer three six in
-    let one : given.0 ≡ yis_run v image limit = yis_answers files_before.told v size limit object bytes image given.0 told short loads given.1.by_some in
+    let one : given.0 ≡ yis_run v image limit = yis_answers call.files_before.told v size limit object bytes image given.0 told short loads given.1.by_some in
     let right = run_is v image steps limit stops le in
     record {
       status_is = given.2.status_is four ∙ (ap (λ (x : Answer). x.status) one ∙ right.0);
-      told = subst (λ (line : List ℕ). Appended out_before.taken out_after.taken line) (ap (λ (x : Answer). x.out) one ∙ right.1) (given.2.out four);
+      told = subst (λ (line : List ℕ). Appended call.out_before.taken call.out_after.taken line) (ap (λ (x : Answer). x.out) one ∙ right.1) (given.2.out four);
     }

@@ -10,8 +10,8 @@ ghost use Rattle.y86_isa.specs.Run.{IsImage, Pure};
 ghost use Rattle.yo_object.specs.ObjectText.{object_of};
 ghost use Rattle.y86_call_laws.specs.CheckedRuns.{HasAccepted};
 ghost use Rattle.cli_plans.specs.Known.{Known};
-ghost use Rattle.cli_plans.specs.PlanFollowing.{FilesState, SinkState};
-ghost use Rattle.y86_cli.specs.CallContract.{CallContract};
+ghost use Rattle.cli_plans.specs.PlanFollowing.{CallStates};
+ghost use Rattle.y86_cli.specs.CallContract.{MeetsContract};
 ghost use Rattle.y86_words.specs.Forms.{form_of, psim, yis};
 
 /// The theorem for your pipeline and your program. Suppose that:
@@ -25,21 +25,19 @@ ghost use Rattle.y86_words.specs.Forms.{form_of, psim, yis};
 /// by instructions, within that time. `yis` prints the same report with the same status. Excepted are calls with a
 /// failed read, a failed write or too little memory.
 pub fn law_of_checked_programs()
-    ensures psim { (words : List (List ℕ)) (name object text bytes image : List ℕ) (size limit most steps : ℕ) (trace : Bool) (v : Variant)
-        (files_before files_after : FilesState) (out_before out_after err_before err_after : SinkState) (status : ℕ) →
+    ensures psim { (words : List (List ℕ)) (name object text bytes image : List ℕ) (size limit most steps : ℕ) (trace : Bool) (v : Variant) (call : CallStates) (status : ℕ) →
         form_of words ≡ Some (psim name object size limit trace false v) →
-        files_before.told name ≡ Some (Some text) → length text ≤ 65536 → HasAccepted v (Some (Some text)) →
-        files_before.told object ≡ Some (Some bytes) → length bytes ≤ 1048576 → object_of bytes size ≡ Ok image →
+        call.files_before.told name ≡ Some (Some text) → length text ≤ 65536 → HasAccepted v (Some (Some text)) →
+        call.files_before.told object ≡ Some (Some bytes) → length bytes ≤ 1048576 → object_of bytes size ≡ Ok image →
         IsWatched v image most (Apart steps true) → 5 * steps ≤ limit →
-        CallContract (form_of words) files_before files_after out_before out_after err_before err_after status → status ≢ 3 → status ≢ 4 → status ≢ 6 →
-        PrintsRun v image steps trace out_before out_after status }
-    ensures yis { (words : List (List ℕ)) (object bytes image : List ℕ) (size limit most steps : ℕ) (v : Variant)
-        (files_before files_after : FilesState) (out_before out_after err_before err_after : SinkState) (status : ℕ) →
+        MeetsContract (form_of words) call status → status ≢ 3 → status ≢ 4 → status ≢ 6 →
+        PrintsRun v image steps trace call.out_before call.out_after status }
+    ensures yis { (words : List (List ℕ)) (object bytes image : List ℕ) (size limit most steps : ℕ) (v : Variant) (call : CallStates) (status : ℕ) →
         form_of words ≡ Some (yis object size limit v) →
-        files_before.told object ≡ Some (Some bytes) → length bytes ≤ 1048576 → object_of bytes size ≡ Ok image →
+        call.files_before.told object ≡ Some (Some bytes) → length bytes ≤ 1048576 → object_of bytes size ≡ Ok image →
         IsWatched v image most (Apart steps true) → steps ≤ limit →
-        CallContract (form_of words) files_before files_after out_before out_after err_before err_after status → status ≢ 3 → status ≢ 4 → status ≢ 6 →
-        PrintsReport v image steps out_before out_after status }
+        MeetsContract (form_of words) call status → status ≢ 3 → status ≢ 4 → status ≢ 6 →
+        PrintsReport v image steps call.out_before call.out_after status }
 {}
 
 /// The same for every program that doesn't write its own code, without a call of `watch`. Consider an image of which
@@ -49,12 +47,11 @@ pub fn law_of_checked_programs()
 pub fn law_of_pure_programs()
     ensures refines { (v : Variant) (told : Known) (h : HasAccepted v told) (image : List ℕ) (k : ℕ) →
         IsImage image → Pure v image k → Refines v h.terms image k }
-    ensures psim { (words : List (List ℕ)) (name object text bytes image : List ℕ) (size limit steps : ℕ) (trace : Bool) (v : Variant)
-        (files_before files_after : FilesState) (out_before out_after err_before err_after : SinkState) (status : ℕ) →
+    ensures psim { (words : List (List ℕ)) (name object text bytes image : List ℕ) (size limit steps : ℕ) (trace : Bool) (v : Variant) (call : CallStates) (status : ℕ) →
         form_of words ≡ Some (psim name object size limit trace false v) →
-        files_before.told name ≡ Some (Some text) → length text ≤ 65536 → HasAccepted v (Some (Some text)) →
-        files_before.told object ≡ Some (Some bytes) → length bytes ≤ 1048576 → object_of bytes size ≡ Ok image →
+        call.files_before.told name ≡ Some (Some text) → length text ≤ 65536 → HasAccepted v (Some (Some text)) →
+        call.files_before.told object ≡ Some (Some bytes) → length bytes ≤ 1048576 → object_of bytes size ≡ Ok image →
         StopsIn v image steps → ((k : ℕ) → Pure v image k) → 5 * steps ≤ limit →
-        CallContract (form_of words) files_before files_after out_before out_after err_before err_after status → status ≢ 3 → status ≢ 4 → status ≢ 6 →
-        PrintsRun v image steps trace out_before out_after status }
+        MeetsContract (form_of words) call status → status ≢ 3 → status ≢ 4 → status ≢ 6 →
+        PrintsRun v image steps trace call.out_before call.out_after status }
 {}

@@ -21,9 +21,9 @@ use Rattle.cli_checks.specs.Checks.{PipeChecks, SeqChecks}
 use Rattle.cli_verdicts.specs.Verdicts.{AnswersYesPipe, RefusesPipe}
 use Rattle.seq_plus.specs.Datapaths.{rows_of}
 use Rattle.cli_plans.specs.Designs.{IsDesign, RefusesDesign, RefusesHcl}
-use Rattle.cli_plans.specs.PlanFollowing.{FilesState, SinkState}
+use Rattle.cli_plans.specs.PlanFollowing.{CallStates}
 use Rattle.cli_plans.specs.Plan.{Answer, Plan, HasContents, done, value_in}
-use Rattle.y86_cli.specs.CallContract.{CallContract}
+use Rattle.y86_cli.specs.CallContract.{MeetsContract}
 use Rattle.cli_plans.specs.Calls.{WroteError}
 use Rattle.cli_obligations.specs.Samples.{SampleAnswers}
 use Rattle.hcl_types.specs.declared.table.SequentialDatapath.{SequentialDatapath}
@@ -175,15 +175,12 @@ aig_plan_yes name v = reads_yes _ _ _ (λ text. yes_stage name text _ (λ terms 
 
 -- ---- two calls
 
-pub told_alike : (form : Option Command) → HasOneAnswer (plan_in form) → (files_before files_after others_before others_after : FilesState)
-    (out_before out_after err_before err_after out_before2 out_after2 err_before2 err_after2 : SinkState) (status other : ℕ) →
-    CallContract form files_before files_after out_before out_after err_before err_after status →
-    CallContract form others_before others_after out_before2 out_after2 err_before2 err_after2 other →
-    (contents : List (Option (List ℕ))) → HasContents files_before.told (plan_in form) contents → HasContents others_before.told (plan_in form) contents →
+pub told_alike : (form : Option Command) → HasOneAnswer (plan_in form) → (call other_call : CallStates) (status other : ℕ) →
+    MeetsContract form call status → MeetsContract form other_call other →
+    (contents : List (Option (List ℕ))) → HasContents call.files_before.told (plan_in form) contents → HasContents other_call.files_before.told (plan_in form) contents →
     status ≢ 3 → status ≢ 4 → status ≢ 6 → other ≢ 3 → other ≢ 4 → other ≢ 6 →
-    SameAnswers (plan_in form) contents out_before out_after err_before err_after out_before2 out_after2 err_before2 err_after2 status other
-told_alike form one files_before files_after others_before others_after out_before out_after err_before err_after out_before2 out_after2 err_before2 err_after2 status other
-    ran ran2 contents tells tells2 three four six three2 four2 six2 =
+    SameAnswers (plan_in form) contents call other_call status other
+told_alike form one call other_call status other ran ran2 contents tells tells2 three four six three2 four2 six2 =
     let a = ran.answer three six in
     let b = ran2.answer three2 six2 in
     let same : a.0 ≡ b.0 = one.one contents a.0 b.0 (a.1.by_told contents tells) (b.1.by_told contents tells2) in
@@ -192,8 +189,8 @@ told_alike form one files_before files_after others_before others_after out_befo
       allowed = b.1.by_told contents tells2;
       status_is = a.2.status_is four ∙ ap (λ (x : Answer). x.status) same;
       other_is = b.2.status_is four2;
-      out = subst (λ (x : Answer). Appended out_before.taken out_after.taken x.out) same (a.2.out four);
+      out = subst (λ (x : Answer). Appended call.out_before.taken call.out_after.taken x.out) same (a.2.out four);
       other_out = b.2.out four2;
-      err = subst (λ (x : Answer). WroteError err_before err_after x.err) same (a.2.err four);
+      err = subst (λ (x : Answer). WroteError call.err_before call.err_after x.err) same (a.2.err four);
       other_err = b.2.err four2;
     }

@@ -21,10 +21,10 @@ use Rattle.cli_plans.specs.Stages.{hcl_limit}
 use Rattle.y86_cli.specs.Answers.{plan_in}
 use Rattle.cli_obligations.specs.Certified.{Rechecks, cert_fault_line, cert_limit}
 use Rattle.cli_plans.specs.Designs.{IsDesign}
-use Rattle.cli_plans.specs.PlanFollowing.{FilesState, SinkState}
+use Rattle.cli_plans.specs.PlanFollowing.{CallStates, SinkState}
 use Rattle.cli_plans.specs.Known.{Known}
 use Rattle.cli_plans.specs.Plan.{IsAnswerOf, Answer, HasContents, refused}
-use Rattle.y86_cli.specs.CallContract.{CallContract, DeliversOnBoth}
+use Rattle.y86_cli.specs.CallContract.{DeliversOnBoth, MeetsContract}
 use Rattle.cli_plans.specs.Calls.{WroteError}
 use Rattle.y86_call_laws.proofs.Agreement.{control_high, design_high, high}
 use Rattle.y86_answer_laws.specs.OneAnswer.{KeptCertificate}
@@ -126,33 +126,28 @@ module _ (name cert : List ℕ) (v : Variant) (text bytes : List ℕ) (w : Writt
       outcome a out_before out_after err_before err_after status shows four
       (subst (λ (ts : List Term). Rechecks cert v ts bytes a) (design_one pipe_rows text terms w.terms design w.design) answers)
 
-own_certificate : (name cert : List ℕ) (v : Variant) (text bytes : List ℕ)
-    (files_before files_after later_before later_after : FilesState) (out_before out_after err_before err_after out_before2 out_after2 err_before2 err_after2 : SinkState) (status : ℕ) →
-    CallContract (Some (certify_pipe name v)) files_before files_after out_before out_after err_before err_after 0 →
-    files_before.told name ≡ Some (Some text) → out_before.taken ≡ Some [] → out_after.taken ≡ Some bytes →
-    CallContract (Some (recheck name cert v)) later_before later_after out_before2 out_after2 err_before2 err_after2 status →
-    later_before.told name ≡ Some (Some text) → later_before.told cert ≡ Some (Some bytes) → length bytes ≤ 536870912 → status ≢ 3 → status ≢ 4 → status ≢ 6 →
-    KeptCertificate v text cert out_before2 out_after2 err_before2 err_after2 status
-own_certificate name cert v text bytes files_before files_after later_before later_after out_before out_after err_before err_after out_before2 out_after2 err_before2 err_after2 status
-    ran told empty taken ran2 told2 told_cert small three four six =
+own_certificate : (name cert : List ℕ) (v : Variant) (text bytes : List ℕ) (call later : CallStates) (status : ℕ) →
+    MeetsContract (Some (certify_pipe name v)) call 0 →
+    call.files_before.told name ≡ Some (Some text) → call.out_before.taken ≡ Some [] → call.out_after.taken ≡ Some bytes →
+    MeetsContract (Some (recheck name cert v)) later status →
+    later.files_before.told name ≡ Some (Some text) → later.files_before.told cert ≡ Some (Some bytes) → length bytes ≤ 536870912 → status ≢ 3 → status ≢ 4 → status ≢ 6 →
+    KeptCertificate v text cert later.out_before later.out_after later.err_before later.err_after status
+own_certificate name cert v text bytes call later status ran told empty taken ran2 told2 told_cert small three four six =
     let given = ran.answer (λ n. omega (arith, n)) (λ n. omega (arith, n)) in
-    let went : bytes ≡ given.0.out = all_taken out_before out_after given.0.out bytes empty taken (given.2.out (λ n. omega (arith, n))) in
+    let went : bytes ≡ given.0.out = all_taken call.out_before call.out_after given.0.out bytes empty taken (given.2.out (λ n. omega (arith, n))) in
     let w : Written v text bytes =
     subst (Written v text) (sym went)
-    (written_by name v text given.0 (given.1.by_told (Some text ∷ []) (certify_tells files_before.told name v text told)) (sym (given.2.status_is (λ n. omega (arith, n))))) in
+    (written_by name v text given.0 (given.1.by_told (Some text ∷ []) (certify_tells call.files_before.told name v text told)) (sym (given.2.status_is (λ n. omega (arith, n))))) in
     let checked = ran2.answer three six in
-    kept_by name cert v text bytes w small checked.0 out_before2 out_after2 err_before2 err_after2 status
-    (checked.1.by_told (Some text ∷ Some bytes ∷ []) (recheck_tells name cert v text bytes w small later_before.told told2 told_cert)) checked.2 four
+    kept_by name cert v text bytes w small checked.0 later.out_before later.out_after later.err_before later.err_after status
+    (checked.1.by_told (Some text ∷ Some bytes ∷ []) (recheck_tells name cert v text bytes w small later.files_before.told told2 told_cert)) checked.2 four
 
-pub own_certificates : (words others : List (List ℕ)) (name cert : List ℕ) (v : Variant) (text bytes : List ℕ)
-    (files_before files_after later_before later_after : FilesState) (out_before out_after err_before err_after out_before2 out_after2 err_before2 err_after2 : SinkState) (status : ℕ) →
+pub own_certificates : (words others : List (List ℕ)) (name cert : List ℕ) (v : Variant) (text bytes : List ℕ) (call later : CallStates) (status : ℕ) →
     form_of words ≡ Some (certify_pipe name v) → form_of others ≡ Some (recheck name cert v) →
-    CallContract (form_of words) files_before files_after out_before out_after err_before err_after 0 →
-    files_before.told name ≡ Some (Some text) → out_before.taken ≡ Some [] → out_after.taken ≡ Some bytes →
-    CallContract (form_of others) later_before later_after out_before2 out_after2 err_before2 err_after2 status →
-    later_before.told name ≡ Some (Some text) → later_before.told cert ≡ Some (Some bytes) → length bytes ≤ 536870912 → status ≢ 3 → status ≢ 4 → status ≢ 6 →
-    KeptCertificate v text cert out_before2 out_after2 err_before2 err_after2 status
-own_certificates words others name cert v text bytes files_before files_after later_before later_after out_before out_after err_before err_after out_before2 out_after2 err_before2 err_after2 status
-    is is2 ran told empty taken ran2 told2 told_cert small three four six =
-    own_certificate name cert v text bytes files_before files_after later_before later_after out_before out_after err_before err_after out_before2 out_after2 err_before2 err_after2 status
-    (rw is at ran) told empty taken (rw is2 at ran2) told2 told_cert small three four six
+    MeetsContract (form_of words) call 0 →
+    call.files_before.told name ≡ Some (Some text) → call.out_before.taken ≡ Some [] → call.out_after.taken ≡ Some bytes →
+    MeetsContract (form_of others) later status →
+    later.files_before.told name ≡ Some (Some text) → later.files_before.told cert ≡ Some (Some bytes) → length bytes ≤ 536870912 → status ≢ 3 → status ≢ 4 → status ≢ 6 →
+    KeptCertificate v text cert later.out_before later.out_after later.err_before later.err_after status
+own_certificates words others name cert v text bytes call later status is is2 ran told empty taken ran2 told2 told_cert small three four six =
+    own_certificate name cert v text bytes call later status (rw is at ran) told empty taken (rw is2 at ran2) told2 told_cert small three four six

@@ -11,7 +11,7 @@ use Rattle.wb_io.specs.Sinks.{Appended}
 use Rattle.y86_base.specs.declared.parts.Variant.{Variant}
 use Rattle.cli_obligations.specs.Certified.{cert_fault_line}
 use Rattle.cli_plans.specs.Designs.{IsDesign}
-use Rattle.cli_plans.specs.PlanFollowing.{SinkState}
+use Rattle.cli_plans.specs.PlanFollowing.{CallStates, SinkState}
 use Rattle.cli_plans.specs.Plan.{IsAnswerOf, Answer, Plan}
 use Rattle.cli_plans.specs.Calls.{WroteError}
 
@@ -31,16 +31,15 @@ pub record HasOneRefusal (plan : Plan) : Type 0 where
   pub one : (contents : List (Option (List ℕ))) (a b : Answer) → IsAnswerOf plan contents a → IsAnswerOf plan contents b → (a ≡ b) ⊎ AreYes a b
 
 -- two calls gave the same answer, which the plan allows for these contents
-pub record SameAnswers (plan : Plan) (contents : List (Option (List ℕ))) (out_before out_after err_before err_after other_before other_after said_before said_after : SinkState)
-    (status other : ℕ) : Type 0 where
+pub record SameAnswers (plan : Plan) (contents : List (Option (List ℕ))) (call other_call : CallStates) (status other : ℕ) : Type 0 where
   pub answer : Answer
   pub allowed : IsAnswerOf plan contents answer
   pub status_is : status ≡ answer.status
   pub other_is : other ≡ answer.status
-  pub out : Appended out_before.taken out_after.taken answer.out
-  pub other_out : Appended other_before.taken other_after.taken answer.out
-  pub err : WroteError err_before err_after answer.err
-  pub other_err : WroteError said_before said_after answer.err
+  pub out : Appended call.out_before.taken call.out_after.taken answer.out
+  pub other_out : Appended other_call.out_before.taken other_call.out_after.taken answer.out
+  pub err : WroteError call.err_before call.err_after answer.err
+  pub other_err : WroteError other_call.err_before other_call.err_after answer.err
 
 -- A certificate that was written for a file was checked for it: it was accepted, at the settings at which the file is
 -- accepted; or it was refused because of the gates of the net, and for no other reason.

@@ -5,9 +5,9 @@ ghost use Rattle.cli_obligations.specs.Answers.{aig_plan, aigrun_plan, certify_p
 ghost use Rattle.cli_runs.specs.Answers.{big_plan, hcl_plan, psim_plan, ssim_plan, yas_plan, yis_plan};
 ghost use Rattle.cli_checks.specs.Answers.{check_pipe_plan, check_seq_plan};
 ghost use Rattle.y86_cli.specs.Answers.{plan_in};
-ghost use Rattle.cli_plans.specs.PlanFollowing.{FilesState, SinkState};
+ghost use Rattle.cli_plans.specs.PlanFollowing.{CallStates};
 ghost use Rattle.cli_plans.specs.Plan.{HasContents};
-ghost use Rattle.y86_cli.specs.CallContract.{CallContract};
+ghost use Rattle.y86_cli.specs.CallContract.{MeetsContract};
 ghost use Rattle.hcl_types.specs.declared.table.SequentialDatapath.{SequentialDatapath};
 ghost use Rattle.y86_words.specs.Forms.{Command, certify_pipe, form_of, recheck};
 ghost use Rattle.y86_answer_laws.specs.OneAnswer.{HasOneAnswer, HasOneRefusal, KeptCertificate, SameAnswers};
@@ -36,27 +36,23 @@ pub fn law_of_one_answer()
 /// status and print the same text and the same line on standard error, unless one of them ends with 3, 4 or 6; and
 /// these are what the plan allows for the contents.
 pub fn law_of_calls()
-    ensures { (form : Option Command) → HasOneAnswer (plan_in form) → (files_before files_after others_before others_after : FilesState)
-        (out_before out_after err_before err_after out_before2 out_after2 err_before2 err_after2 : SinkState) (status other : ℕ) →
-        CallContract form files_before files_after out_before out_after err_before err_after status →
-        CallContract form others_before others_after out_before2 out_after2 err_before2 err_after2 other →
-        (contents : List (Option (List ℕ))) → HasContents files_before.told (plan_in form) contents → HasContents others_before.told (plan_in form) contents →
+    ensures { (form : Option Command) → HasOneAnswer (plan_in form) → (call other_call : CallStates) (status other : ℕ) →
+        MeetsContract form call status → MeetsContract form other_call other →
+        (contents : List (Option (List ℕ))) → HasContents call.files_before.told (plan_in form) contents → HasContents other_call.files_before.told (plan_in form) contents →
         status ≢ 3 → status ≢ 4 → status ≢ 6 → other ≢ 3 → other ≢ 4 → other ≢ 6 →
-        SameAnswers (plan_in form) contents out_before out_after err_before err_after out_before2 out_after2 err_before2 err_after2 status other }
+        SameAnswers (plan_in form) contents call other_call status other }
 {}
 
 /// What `check pipe` with `--cert` wrote for a file, `recheck` accepts for the same file, at the same settings; or it
 /// refuses only because of the gates of the net, or ends with 3, 4 or 6. So the form, each number and each claim are
 /// right.
 pub fn law_of_own_certificates()
-    ensures { (words others : List (List ℕ)) (name cert : List ℕ) (v : Variant) (text bytes : List ℕ)
-        (files_before files_after later_before later_after : FilesState)
-        (out_before out_after err_before err_after out_before2 out_after2 err_before2 err_after2 : SinkState) (status : ℕ) →
+    ensures { (words others : List (List ℕ)) (name cert : List ℕ) (v : Variant) (text bytes : List ℕ) (call later : CallStates) (status : ℕ) →
         form_of words ≡ Some (certify_pipe name v) → form_of others ≡ Some (recheck name cert v) →
-        CallContract (form_of words) files_before files_after out_before out_after err_before err_after 0 →
-        files_before.told name ≡ Some (Some text) → out_before.taken ≡ Some [] → out_after.taken ≡ Some bytes →
-        CallContract (form_of others) later_before later_after out_before2 out_after2 err_before2 err_after2 status →
-        later_before.told name ≡ Some (Some text) → later_before.told cert ≡ Some (Some bytes) → length bytes ≤ 536870912 →
+        MeetsContract (form_of words) call 0 →
+        call.files_before.told name ≡ Some (Some text) → call.out_before.taken ≡ Some [] → call.out_after.taken ≡ Some bytes →
+        MeetsContract (form_of others) later status →
+        later.files_before.told name ≡ Some (Some text) → later.files_before.told cert ≡ Some (Some bytes) → length bytes ≤ 536870912 →
         status ≢ 3 → status ≢ 4 → status ≢ 6 →
-        KeptCertificate v text cert out_before2 out_after2 err_before2 err_after2 status }
+        KeptCertificate v text cert later.out_before later.out_after later.err_before later.err_after status }
 {}

@@ -23,13 +23,13 @@ use Rattle.cli_plans.specs.Stages.{image_of_text}
 use Rattle.cli_verdicts.specs.Verdicts.{AnswersYesPipe, RefusesControl}
 use Rattle.seq_plus.specs.Datapaths.{rows_of}
 use Rattle.cli_plans.specs.Designs.{IsDesign, RefusesDesign}
-use Rattle.cli_plans.specs.PlanFollowing.{FilesState, SinkState}
+use Rattle.cli_plans.specs.PlanFollowing.{CallStates, SinkState}
 use Rattle.y86_words.specs.Forms.{check_pipe, check_plus, check_seq, form_of, psim}
 use Rattle.cli_plans.specs.Lines.{object_fault_line}
 use Rattle.cli_plans.specs.Known.{Known}
 use Rattle.cli_plans.specs.Plan.{Answer, MayBeAnswer, value_from, done, refused}
 use Rattle.cli_runs.specs.PipeRuns.{RunsFor, end_of, run_text}
-use Rattle.y86_cli.specs.CallContract.{CallContract, DeliversOnBoth}
+use Rattle.y86_cli.specs.CallContract.{DeliversOnBoth, MeetsContract}
 use Rattle.y86_words.proofs.Legal.{form_legal}
 use Rattle.hcl_types.specs.declared.table.SequentialDatapath.{SequentialDatapath}
 use Rattle.hcl_types.specs.declared.table.SequentialDatapath.TheVariants.{Seq, SeqPlus}
@@ -96,12 +96,12 @@ check_told told name v a (inr (inr (text, has, short, inl (terms, design, inr (i
 check_told told name v a (inr (inr (text, has, short, inl (terms, design, inr (inr refuses))))) none =
     absurd (control_high name pipe_rows terms a refuses (omega (arith, none)))
 
-check_accepts : (name : List ℕ) (v : Variant) (files_before files_after : FilesState) (out_before out_after err_before err_after : SinkState) →
-    CallContract (Some (check_pipe name v)) files_before files_after out_before out_after err_before err_after 0 → ToldAccepted v (files_before.told name) out_before out_after
-check_accepts name v files_before files_after out_before out_after err_before err_after ran =
+check_accepts : (name : List ℕ) (v : Variant) (call : CallStates) →
+    MeetsContract (Some (check_pipe name v)) call 0 → ToldAccepted v (call.files_before.told name) call.out_before call.out_after
+check_accepts name v call ran =
     let given = ran.answer (λ three. omega (arith, three)) (λ six. omega (arith, six)) in
-    let said = check_told files_before.told name v given.0 given.1.by_some (sym (given.2.status_is (λ four. omega (arith, four)))) in
-    record { file = said.0; line = subst (Appended out_before.taken out_after.taken) said.1 (given.2.out (λ four. omega (arith, four))) }
+    let said = check_told call.files_before.told name v given.0 given.1.by_some (sym (given.2.status_is (λ four. omega (arith, four)))) in
+    record { file = said.0; line = subst (Appended call.out_before.taken call.out_after.taken) said.1 (given.2.out (λ four. omega (arith, four))) }
 
 -- ---- `check seq` and `check seqplus`
 
@@ -118,23 +118,24 @@ check_seq_told which told name v a (inr (inr (text, has, short, inl (terms, desi
 check_seq_told which told name v a (inr (inr (text, has, short, inl (terms, design, inr (inr refuses))))) none =
     absurd (control_high name (rows_of which) terms a refuses (omega (arith, none)))
 
-check_seq_says : (which : SequentialDatapath) (name : List ℕ) (v : Variant) (a : Answer) (files_before : FilesState) (out_before out_after err_before err_after : SinkState) →
-    MayBeAnswer files_before.told (check_seq_plan which name v) a → DeliversOnBoth a out_before out_after err_before err_after 0 → ToldAcceptedSeq which v (files_before.told name) out_before out_after
-check_seq_says which name v a files_before out_before out_after err_before err_after may shows =
-    let said = check_seq_told which files_before.told name v a may (sym (shows.status_is (λ four. omega (arith, four)))) in
-    record { file = said.0; line = subst (Appended out_before.taken out_after.taken) said.1 (shows.out (λ four. omega (arith, four))) }
+check_seq_says : (which : SequentialDatapath) (name : List ℕ) (v : Variant) (a : Answer) (call : CallStates) →
+    MayBeAnswer call.files_before.told (check_seq_plan which name v) a → DeliversOnBoth a call.out_before call.out_after call.err_before call.err_after 0 →
+    ToldAcceptedSeq which v (call.files_before.told name) call.out_before call.out_after
+check_seq_says which name v a call may shows =
+    let said = check_seq_told which call.files_before.told name v a may (sym (shows.status_is (λ four. omega (arith, four)))) in
+    record { file = said.0; line = subst (Appended call.out_before.taken call.out_after.taken) said.1 (shows.out (λ four. omega (arith, four))) }
 
-check_seq_accepts : (name : List ℕ) (v : Variant) (files_before files_after : FilesState) (out_before out_after err_before err_after : SinkState) →
-    CallContract (Some (check_seq name v)) files_before files_after out_before out_after err_before err_after 0 → ToldAcceptedSeq Seq v (files_before.told name) out_before out_after
-check_seq_accepts name v files_before files_after out_before out_after err_before err_after ran =
+check_seq_accepts : (name : List ℕ) (v : Variant) (call : CallStates) →
+    MeetsContract (Some (check_seq name v)) call 0 → ToldAcceptedSeq Seq v (call.files_before.told name) call.out_before call.out_after
+check_seq_accepts name v call ran =
     let given = ran.answer (λ three. omega (arith, three)) (λ six. omega (arith, six)) in
-    check_seq_says Seq name v given.0 files_before out_before out_after err_before err_after given.1.by_some given.2
+    check_seq_says Seq name v given.0 call given.1.by_some given.2
 
-check_plus_accepts : (name : List ℕ) (v : Variant) (files_before files_after : FilesState) (out_before out_after err_before err_after : SinkState) →
-    CallContract (Some (check_plus name v)) files_before files_after out_before out_after err_before err_after 0 → ToldAcceptedSeq SeqPlus v (files_before.told name) out_before out_after
-check_plus_accepts name v files_before files_after out_before out_after err_before err_after ran =
+check_plus_accepts : (name : List ℕ) (v : Variant) (call : CallStates) →
+    MeetsContract (Some (check_plus name v)) call 0 → ToldAcceptedSeq SeqPlus v (call.files_before.told name) call.out_before call.out_after
+check_plus_accepts name v call ran =
     let given = ran.answer (λ three. omega (arith, three)) (λ six. omega (arith, six)) in
-    check_seq_says SeqPlus name v given.0 files_before out_before out_after err_before err_after given.1.by_some given.2
+    check_seq_says SeqPlus name v given.0 call given.1.by_some given.2
 
 -- ---- `psim` after a check
 
@@ -198,43 +199,41 @@ psim_told told name object size limit trace v early late status a sized is low t
     inl (ran_accepted v size limit trace (told name) (told object) early late status a sized is took text has terms design verdict accepts bytes has_object image
     (loads_ok object (object_of bytes size) image loads) answers)
 
-psim_agrees : (name object : List ℕ) (size limit : ℕ) (trace : Bool) (v : Variant) (files_before files_after : FilesState)
-    (out_before out_after err_before err_after : SinkState) (status : ℕ) → IsSize size → status ≤ 1 →
-    CallContract (Some (psim name object size limit trace true v)) files_before files_after out_before out_after err_before err_after status →
-    CheckedRunIsRight v size limit trace (files_before.told name) (files_before.told object) out_before out_after status
-    ⊎ AnsweredNo v (files_before.told name) out_before out_after status
-psim_agrees name object size limit trace v files_before files_after out_before out_after err_before err_after status sized low ran =
+psim_agrees : (name object : List ℕ) (size limit : ℕ) (trace : Bool) (v : Variant) (call : CallStates) (status : ℕ) → IsSize size → status ≤ 1 →
+    MeetsContract (Some (psim name object size limit trace true v)) call status →
+    CheckedRunIsRight v size limit trace (call.files_before.told name) (call.files_before.told object) call.out_before call.out_after status
+    ⊎ AnsweredNo v (call.files_before.told name) call.out_before call.out_after status
+psim_agrees name object size limit trace v call status sized low ran =
     let given = ran.answer (λ three. omega (arith, three, low)) (λ six. omega (arith, six, low)) in
     let is : status ≡ given.0.status = given.2.status_is (λ four. omega (arith, four, low)) in
-    psim_told files_before.told name object size limit trace v out_before out_after status given.0 sized is (omega (arith, is, low))
+    psim_told call.files_before.told name object size limit trace v call.out_before call.out_after status given.0 sized is (omega (arith, is, low))
     (given.2.out (λ four. omega (arith, four, low))) given.1.by_some
 
 -- ---- the same for the words of a call
 
-pub accepting_seq_words : (words : List (List ℕ)) (name : List ℕ) (v : Variant) (files_before files_after : FilesState) (out_before out_after err_before err_after : SinkState) →
-    form_of words ≡ Some (check_seq name v) → CallContract (form_of words) files_before files_after out_before out_after err_before err_after 0 →
-    ToldAcceptedSeq Seq v (files_before.told name) out_before out_after
-accepting_seq_words words name v files_before files_after out_before out_after err_before err_after is ran =
-    check_seq_accepts name v files_before files_after out_before out_after err_before err_after (rw is at ran)
+pub accepting_seq_words : (words : List (List ℕ)) (name : List ℕ) (v : Variant) (call : CallStates) →
+    form_of words ≡ Some (check_seq name v) → MeetsContract (form_of words) call 0 →
+    ToldAcceptedSeq Seq v (call.files_before.told name) call.out_before call.out_after
+accepting_seq_words words name v call is ran =
+    check_seq_accepts name v call (rw is at ran)
 
-pub accepting_plus_words : (words : List (List ℕ)) (name : List ℕ) (v : Variant) (files_before files_after : FilesState) (out_before out_after err_before err_after : SinkState) →
-    form_of words ≡ Some (check_plus name v) → CallContract (form_of words) files_before files_after out_before out_after err_before err_after 0 →
-    ToldAcceptedSeq SeqPlus v (files_before.told name) out_before out_after
-accepting_plus_words words name v files_before files_after out_before out_after err_before err_after is ran =
-    check_plus_accepts name v files_before files_after out_before out_after err_before err_after (rw is at ran)
+pub accepting_plus_words : (words : List (List ℕ)) (name : List ℕ) (v : Variant) (call : CallStates) →
+    form_of words ≡ Some (check_plus name v) → MeetsContract (form_of words) call 0 →
+    ToldAcceptedSeq SeqPlus v (call.files_before.told name) call.out_before call.out_after
+accepting_plus_words words name v call is ran =
+    check_plus_accepts name v call (rw is at ran)
 
-pub accepting_words : (words : List (List ℕ)) (name : List ℕ) (v : Variant) (files_before files_after : FilesState) (out_before out_after err_before err_after : SinkState) →
-    form_of words ≡ Some (check_pipe name v) → CallContract (form_of words) files_before files_after out_before out_after err_before err_after 0 →
-    ToldAccepted v (files_before.told name) out_before out_after
-accepting_words words name v files_before files_after out_before out_after err_before err_after is ran =
-    check_accepts name v files_before files_after out_before out_after err_before err_after (rw is at ran)
+pub accepting_words : (words : List (List ℕ)) (name : List ℕ) (v : Variant) (call : CallStates) →
+    form_of words ≡ Some (check_pipe name v) → MeetsContract (form_of words) call 0 →
+    ToldAccepted v (call.files_before.told name) call.out_before call.out_after
+accepting_words words name v call is ran =
+    check_accepts name v call (rw is at ran)
 
 -- words that form a command contain a size of memory
-pub agreeing_words : (words : List (List ℕ)) (name object : List ℕ) (size limit : ℕ) (trace : Bool) (v : Variant) (files_before files_after : FilesState)
-    (out_before out_after err_before err_after : SinkState) (status : ℕ) → form_of words ≡ Some (psim name object size limit trace true v) → status ≤ 1 →
-    CallContract (form_of words) files_before files_after out_before out_after err_before err_after status →
-    CheckedRunIsRight v size limit trace (files_before.told name) (files_before.told object) out_before out_after status
-    ⊎ AnsweredNo v (files_before.told name) out_before out_after status
-agreeing_words words name object size limit trace v files_before files_after out_before out_after err_before err_after status is low ran =
-    psim_agrees name object size limit trace v files_before files_after out_before out_after err_before err_after status
+pub agreeing_words : (words : List (List ℕ)) (name object : List ℕ) (size limit : ℕ) (trace : Bool) (v : Variant) (call : CallStates) (status : ℕ) →
+    form_of words ≡ Some (psim name object size limit trace true v) → status ≤ 1 → MeetsContract (form_of words) call status →
+    CheckedRunIsRight v size limit trace (call.files_before.told name) (call.files_before.told object) call.out_before call.out_after status
+    ⊎ AnsweredNo v (call.files_before.told name) call.out_before call.out_after status
+agreeing_words words name object size limit trace v call status is low ran =
+    psim_agrees name object size limit trace v call status
     (form_legal words (psim name object size limit trace true v) is).2 low (rw is at ran)

@@ -28,10 +28,10 @@ use Rattle.y86_call_laws.specs.CheckedRuns.{HasAccepted}
 use Rattle.cli_runs.specs.Answers.{big_plan}
 use Rattle.cli_runs.specs.Big.{BigAnswers, AnsweredSame, big_line, big_status}
 use Rattle.cli_plans.specs.Designs.{IsDesign, RefusesDesign}
-use Rattle.cli_plans.specs.PlanFollowing.{FilesState, SinkState}
+use Rattle.cli_plans.specs.PlanFollowing.{CallStates}
 use Rattle.cli_plans.specs.Known.{Known}
 use Rattle.cli_plans.specs.Plan.{Answer, MayBeAnswer, done}
-use Rattle.y86_cli.specs.CallContract.{CallContract}
+use Rattle.y86_cli.specs.CallContract.{MeetsContract}
 
 -- ---- the one design of a text
 
@@ -100,20 +100,20 @@ line_is n both alike = rw (alike.steps, alike.same) refl
 status_of_alike : (n : ℕ) (both : CosimResult) → CosimulationAgrees n both → big_status both ≡ 0
 status_of_alike n both alike = rw (alike.same, alike.halted) refl
 
-pub told_same : (words : List (List ℕ)) (n : ℕ) (name : List ℕ) (v : Variant) (files_before files_after : FilesState) (out_before out_after err_before err_after : SinkState) (status : ℕ)
-    (text : List ℕ) → form_of words ≡ Some (big n name v) → files_before.told name ≡ Some (Some text) → length text ≤ 65536 → HasAccepted v (Some (Some text)) →
-    CallContract (form_of words) files_before files_after out_before out_after err_before err_after status → status ≢ 3 → status ≢ 4 → status ≢ 6 → AnsweredSame n out_before out_after status
-told_same words n name v files_before files_after out_before out_after err_before err_after status text is told short accepted ran three four six =
+pub told_same : (words : List (List ℕ)) (n : ℕ) (name : List ℕ) (v : Variant) (call : CallStates) (status : ℕ) (text : List ℕ) →
+    form_of words ≡ Some (big n name v) → call.files_before.told name ≡ Some (Some text) → length text ≤ 65536 → HasAccepted v (Some (Some text)) →
+    MeetsContract (form_of words) call status → status ≢ 3 → status ≢ 4 → status ≢ 6 → AnsweredSame n call.out_before call.out_after status
+told_same words n name v call status text is told short accepted ran three four six =
     let legal : IsInRange (big n name v) = form_legal words (big n name v) is in
-    let ran_big : CallContract (Some (big n name v)) files_before files_after out_before out_after err_before err_after status = rw is at ran in
+    let ran_big : MeetsContract (Some (big n name v)) call status = rw is at ran in
     let given = ran_big.answer three six in
     let same : text ≡ accepted.text = same_bytes (Some (Some text)) text accepted.text refl accepted.has in
     let design : IsDesign pipe_rows text accepted.terms = subst (λ (x : List ℕ). IsDesign pipe_rows x accepted.terms) (sym same) accepted.design in
     let found : Alike n given.0 =
-    big_told files_before.told n name v given.0 text accepted.terms legal.0 legal.1 told short design accepted.refines given.1.by_some in
+    big_told call.files_before.told n name v given.0 text accepted.terms legal.0 legal.1 told short design accepted.refines given.1.by_some in
     record {
       cycles = found.both.cycles;
       in_time = found.alike.cycles;
       status_is = given.2.status_is four ∙ (ap (λ x. x.status) found.is ∙ status_of_alike n found.both found.alike);
-      told = subst (λ (line : List ℕ). Appended out_before.taken out_after.taken line) (ap (λ x. x.out) found.is ∙ line_is n found.both found.alike) (given.2.out four);
+      told = subst (λ (line : List ℕ). Appended call.out_before.taken call.out_after.taken line) (ap (λ x. x.out) found.is ∙ line_is n found.both found.alike) (given.2.out four);
     }

@@ -11,10 +11,10 @@ use Rattle.y86_call_laws.specs.CheckedRuns.{HasAccepted, ToldCertified, ToldCert
 use Rattle.cli_obligations.specs.Answers.{certificate_plan, certify_pipe_plan, recheck_plan}
 use Rattle.cli_obligations.specs.Certified.{HasCertified}
 use Rattle.cli_verdicts.specs.Verdicts.{RefusesControl}
-use Rattle.cli_plans.specs.PlanFollowing.{FilesState, SinkState}
+use Rattle.cli_plans.specs.PlanFollowing.{CallStates, SinkState}
 use Rattle.cli_plans.specs.Known.{Known}
 use Rattle.cli_plans.specs.Plan.{Answer, MayBeAnswer, done, refused}
-use Rattle.y86_cli.specs.CallContract.{CallContract}
+use Rattle.y86_cli.specs.CallContract.{MeetsContract}
 use Rattle.y86_call_laws.proofs.Agreement.{control_high, design_high, high}
 
 -- ---- what an answer with status 0 means
@@ -36,12 +36,12 @@ certify_told told name v a (inr (inr (text, has, short, inl (terms, design, inr 
 certify_told told name v a (inr (inr (text, has, short, inl (terms, design, inr (inr refuses))))) none =
     absurd (control_high name pipe_rows terms a refuses (omega (arith, none)))
 
-certify_accepts : (name : List ℕ) (v : Variant) (files_before files_after : FilesState) (out_before out_after err_before err_after : SinkState) →
-    CallContract (Some (certify_pipe name v)) files_before files_after out_before out_after err_before err_after 0 → WroteCertificate v (files_before.told name) out_before out_after
-certify_accepts name v files_before files_after out_before out_after err_before err_after ran =
+certify_accepts : (name : List ℕ) (v : Variant) (call : CallStates) →
+    MeetsContract (Some (certify_pipe name v)) call 0 → WroteCertificate v (call.files_before.told name) call.out_before call.out_after
+certify_accepts name v call ran =
     let given = ran.answer (λ three. omega (arith, three)) (λ six. omega (arith, six)) in
-    let said = certify_told files_before.told name v given.0 given.1.by_some (sym (given.2.status_is (λ four. omega (arith, four)))) in
-    record { file = said.0; text = said.1; certificate = said.2; went = subst (Appended out_before.taken out_after.taken) said.3 (given.2.out (λ four. omega (arith, four))) }
+    let said = certify_told call.files_before.told name v given.0 given.1.by_some (sym (given.2.status_is (λ four. omega (arith, four)))) in
+    record { file = said.0; text = said.1; certificate = said.2; went = subst (Appended call.out_before.taken call.out_after.taken) said.3 (given.2.out (λ four. omega (arith, four))) }
 
 -- ---- the answers of `recheck`
 
@@ -116,45 +116,45 @@ recheck_not_one v told told_cert a (inl said) one = let same : a.status ≡ 0 = 
 recheck_not_one v told told_cert a (inr r) one =
     let same : a.status ≡ r.status = ap (λ (x : Answer). x.status) r.is in omega (arith, same, one, r.large)
 
-module _ (name cert : List ℕ) (v : Variant) (files_before files_after : FilesState) (out_before out_after err_before err_after : SinkState) where
-  recheck_accepts : CallContract (Some (recheck name cert v)) files_before files_after out_before out_after err_before err_after 0 →
-      ToldCertified v (files_before.told name) (files_before.told cert) out_before out_after
+module _ (name cert : List ℕ) (v : Variant) (call : CallStates) where
+  recheck_accepts : MeetsContract (Some (recheck name cert v)) call 0 →
+      ToldCertified v (call.files_before.told name) (call.files_before.told cert) call.out_before call.out_after
   recheck_accepts ran =
       let given = ran.answer (λ three. omega (arith, three)) (λ six. omega (arith, six)) in
-      recheck_whole v (files_before.told name) (files_before.told cert) given.0 out_before out_after (recheck_told files_before.told name cert v given.0 given.1.by_some)
+      recheck_whole v (call.files_before.told name) (call.files_before.told cert) given.0 call.out_before call.out_after (recheck_told call.files_before.told name cert v given.0 given.1.by_some)
       (sym (given.2.status_is (λ four. omega (arith, four)))) (given.2.out (λ four. omega (arith, four)))
 
-  recheck_breaks : CallContract (Some (recheck name cert v)) files_before files_after out_before out_after err_before err_after 4 →
-      ToldCertifiedPart v (files_before.told name) (files_before.told cert) out_before out_after
+  recheck_breaks : MeetsContract (Some (recheck name cert v)) call 4 →
+      ToldCertifiedPart v (call.files_before.told name) (call.files_before.told cert) call.out_before call.out_after
   recheck_breaks ran =
       let given = ran.answer (λ three. omega (arith, three)) (λ six. omega (arith, six)) in
-      recheck_part v (files_before.told name) (files_before.told cert) given.0 out_before out_after (recheck_told files_before.told name cert v given.0 given.1.by_some) (given.2.part refl)
+      recheck_part v (call.files_before.told name) (call.files_before.told cert) given.0 call.out_before call.out_after (recheck_told call.files_before.told name cert v given.0 given.1.by_some) (given.2.part refl)
 
-  recheck_one : CallContract (Some (recheck name cert v)) files_before files_after out_before out_after err_before err_after 1 → ⊥
+  recheck_one : MeetsContract (Some (recheck name cert v)) call 1 → ⊥
   recheck_one ran =
       let given = ran.answer (λ three. omega (arith, three)) (λ six. omega (arith, six)) in
-      recheck_not_one v (files_before.told name) (files_before.told cert) given.0 (recheck_told files_before.told name cert v given.0 given.1.by_some)
+      recheck_not_one v (call.files_before.told name) (call.files_before.told cert) given.0 (recheck_told call.files_before.told name cert v given.0 given.1.by_some)
       (sym (given.2.status_is (λ four. omega (arith, four))))
 
-pub certifying_words : (words : List (List ℕ)) (name : List ℕ) (v : Variant) (files_before files_after : FilesState) (out_before out_after err_before err_after : SinkState) →
-    form_of words ≡ Some (certify_pipe name v) → CallContract (form_of words) files_before files_after out_before out_after err_before err_after 0 →
-    WroteCertificate v (files_before.told name) out_before out_after
-certifying_words words name v files_before files_after out_before out_after err_before err_after is ran =
-    certify_accepts name v files_before files_after out_before out_after err_before err_after (rw is at ran)
+pub certifying_words : (words : List (List ℕ)) (name : List ℕ) (v : Variant) (call : CallStates) →
+    form_of words ≡ Some (certify_pipe name v) → MeetsContract (form_of words) call 0 →
+    WroteCertificate v (call.files_before.told name) call.out_before call.out_after
+certifying_words words name v call is ran =
+    certify_accepts name v call (rw is at ran)
 
-pub rechecking_words : (words : List (List ℕ)) (name cert : List ℕ) (v : Variant) (files_before files_after : FilesState) (out_before out_after err_before err_after : SinkState) →
-    form_of words ≡ Some (recheck name cert v) → CallContract (form_of words) files_before files_after out_before out_after err_before err_after 0 →
-    ToldCertified v (files_before.told name) (files_before.told cert) out_before out_after
-rechecking_words words name cert v files_before files_after out_before out_after err_before err_after is ran =
-    recheck_accepts name cert v files_before files_after out_before out_after err_before err_after (rw is at ran)
+pub rechecking_words : (words : List (List ℕ)) (name cert : List ℕ) (v : Variant) (call : CallStates) →
+    form_of words ≡ Some (recheck name cert v) → MeetsContract (form_of words) call 0 →
+    ToldCertified v (call.files_before.told name) (call.files_before.told cert) call.out_before call.out_after
+rechecking_words words name cert v call is ran =
+    recheck_accepts name cert v call (rw is at ran)
 
-pub breaking_words : (words : List (List ℕ)) (name cert : List ℕ) (v : Variant) (files_before files_after : FilesState) (out_before out_after err_before err_after : SinkState) →
-    form_of words ≡ Some (recheck name cert v) → CallContract (form_of words) files_before files_after out_before out_after err_before err_after 4 →
-    ToldCertifiedPart v (files_before.told name) (files_before.told cert) out_before out_after
-breaking_words words name cert v files_before files_after out_before out_after err_before err_after is ran =
-    recheck_breaks name cert v files_before files_after out_before out_after err_before err_after (rw is at ran)
+pub breaking_words : (words : List (List ℕ)) (name cert : List ℕ) (v : Variant) (call : CallStates) →
+    form_of words ≡ Some (recheck name cert v) → MeetsContract (form_of words) call 4 →
+    ToldCertifiedPart v (call.files_before.told name) (call.files_before.told cert) call.out_before call.out_after
+breaking_words words name cert v call is ran =
+    recheck_breaks name cert v call (rw is at ran)
 
-pub never_one_words : (words : List (List ℕ)) (name cert : List ℕ) (v : Variant) (files_before files_after : FilesState) (out_before out_after err_before err_after : SinkState) →
-    form_of words ≡ Some (recheck name cert v) → CallContract (form_of words) files_before files_after out_before out_after err_before err_after 1 → ⊥
-never_one_words words name cert v files_before files_after out_before out_after err_before err_after is ran =
-    recheck_one name cert v files_before files_after out_before out_after err_before err_after (rw is at ran)
+pub never_one_words : (words : List (List ℕ)) (name cert : List ℕ) (v : Variant) (call : CallStates) →
+    form_of words ≡ Some (recheck name cert v) → MeetsContract (form_of words) call 1 → ⊥
+never_one_words words name cert v call is ran =
+    recheck_one name cert v call (rw is at ran)

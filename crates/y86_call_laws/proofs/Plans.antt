@@ -25,12 +25,12 @@ use Rattle.cli_plans.specs.Designs.{RefusesDesign}
 use Rattle.hcl_types.specs.declared.table.Row.{Row}
 use Rattle.hcl_types.specs.declared.term.Term.{Term}
 use Rattle.dp_signals.specs.PipeTable.{pipe_rows}
-use Rattle.cli_plans.specs.PlanFollowing.{FilesState, SinkState}
+use Rattle.cli_plans.specs.PlanFollowing.{CallStates}
 use Rattle.y86_words.specs.Forms.{Command, yas, yis, hcl, ssim, ssimp, psim, check_seq, check_plus, check_pipe, certify_pipe, recheck, sample, aig, aigrun, big}
 use Rattle.cli_plans.specs.Lines.{fault_line, assembly_fault_line, object_fault_line, read_fault_line, too_long_line}
 use Rattle.cli_plans.specs.Plan.{done, Answer, Plan, answer_in, reads, value_in, answers, value_from, refused, IsAnswerOf, HasContents, IsDetermined}
 use Rattle.cli_obligations.specs.Samples.{SampleAnswers}
-use Rattle.y86_cli.specs.CallContract.{CallContract}
+use Rattle.y86_cli.specs.CallContract.{MeetsContract}
 use Rattle.cli_plans.specs.Calls.{WroteError}
 use Rattle.hcl_types.specs.declared.table.SequentialDatapath.{SequentialDatapath}
 use Rattle.hcl_types.specs.declared.table.SequentialDatapath.TheVariants.{Seq, SeqPlus}
@@ -94,28 +94,24 @@ yis_one object size limit v = reads_one _ _ _ (λ bytes. after_one _ _ (λ image
 
 -- ---- what the calls of a determined plan answer
 
-pub told_one : (form : Option Command) (one : IsDetermined (plan_in form)) (files_before files_after : FilesState)
-    (out_before out_after err_before err_after : SinkState) (status : ℕ) →
-    CallContract form files_before files_after out_before out_after err_before err_after status →
-    (contents : List (Option (List ℕ))) → HasContents files_before.told (plan_in form) contents → status ≢ 3 → status ≢ 4 → status ≢ 6 →
+pub told_one : (form : Option Command) (one : IsDetermined (plan_in form)) (call : CallStates) (status : ℕ) → MeetsContract form call status →
+    (contents : List (Option (List ℕ))) → HasContents call.files_before.told (plan_in form) contents → status ≢ 3 → status ≢ 4 → status ≢ 6 →
     (status ≡ (one.just_one contents).0.status)
-    × Appended out_before.taken out_after.taken (one.just_one contents).0.out
-    × WroteError err_before err_after (one.just_one contents).0.err
-told_one form one files_before files_after out_before out_after err_before err_after status ran contents tells three four six =
+    × Appended call.out_before.taken call.out_after.taken (one.just_one contents).0.out
+    × WroteError call.err_before call.err_after (one.just_one contents).0.err
+told_one form one call status ran contents tells three four six =
     let given = ran.answer three six in
     let same : given.0 ≡ (one.just_one contents).0 = (one.just_one contents).2 given.0 (given.1.by_told contents tells) in
-    let P : Answer → Type 0 = λ a. (status ≡ a.status) × Appended out_before.taken out_after.taken a.out × WroteError err_before err_after a.err in
+    let P : Answer → Type 0 = λ a. (status ≡ a.status) × Appended call.out_before.taken call.out_after.taken a.out × WroteError call.err_before call.err_after a.err in
     subst P same (given.2.status_is four, given.2.out four, given.2.err four)
 
-pub part_one : (form : Option Command) (one : IsDetermined (plan_in form)) (files_before files_after : FilesState)
-    (out_before out_after err_before err_after : SinkState) (status : ℕ) →
-    CallContract form files_before files_after out_before out_after err_before err_after status →
-    (contents : List (Option (List ℕ))) → HasContents files_before.told (plan_in form) contents → status ≡ 4 →
-    AppendedPrefix out_before.taken out_after.taken (one.just_one contents).0.out
-part_one form one files_before files_after out_before out_after err_before err_after status ran contents tells four =
+pub part_one : (form : Option Command) (one : IsDetermined (plan_in form)) (call : CallStates) (status : ℕ) → MeetsContract form call status →
+    (contents : List (Option (List ℕ))) → HasContents call.files_before.told (plan_in form) contents → status ≡ 4 →
+    AppendedPrefix call.out_before.taken call.out_after.taken (one.just_one contents).0.out
+part_one form one call status ran contents tells four =
     let given = ran.answer (λ three. omega (arith, three, four)) (λ six. omega (arith, six, four)) in
     let same : given.0 ≡ (one.just_one contents).0 = (one.just_one contents).2 given.0 (given.1.by_told contents tells) in
-    let P : Answer → Type 0 = λ a. AppendedPrefix out_before.taken out_after.taken a.out in
+    let P : Answer → Type 0 = λ a. AppendedPrefix call.out_before.taken call.out_after.taken a.out in
     subst P same (given.2.part four)
 
 -- ---- what all answers have in common

@@ -6,11 +6,11 @@ ghost use Rattle.y86_call_laws.specs.CheckedRuns.{HasAccepted, CheckedRunIsRight
 ghost use Rattle.y86_cli.specs.Answers.{plan_in};
 ghost use Rattle.cli_runs.specs.Answers.{yas_plan, yis_plan};
 ghost use Rattle.cli_runs.specs.Big.{AnsweredSame};
-ghost use Rattle.cli_plans.specs.PlanFollowing.{FilesState, SinkState};
+ghost use Rattle.cli_plans.specs.PlanFollowing.{CallStates};
 ghost use Rattle.y86_words.specs.Forms.{Command, big, certify_pipe, check_pipe, check_plus, check_seq, form_of, psim, recheck};
 ghost use Rattle.hcl_types.specs.declared.table.SequentialDatapath.TheVariants.{Seq, SeqPlus};
 ghost use Rattle.cli_plans.specs.Plan.{Answer, IsAnswerOf, IsDetermined, HasContents};
-ghost use Rattle.y86_cli.specs.CallContract.{CallContract};
+ghost use Rattle.y86_cli.specs.CallContract.{MeetsContract};
 ghost use Rattle.cli_plans.specs.Calls.{WroteError};
 
 /// What all answers have in common, whatever the contents of the files. With status 0 and 1 there is nothing for
@@ -29,18 +29,14 @@ pub fn law_of_answers()
 pub fn law_of_plans()
     ensures yas { (source : List ℕ) (size : ℕ) (v : Variant) → IsDetermined (yas_plan source size v) }
     ensures yis { (object : List ℕ) (size limit : ℕ) (v : Variant) → IsDetermined (yis_plan object size limit v) }
-    ensures told { (form : Option Command) (one : IsDetermined (plan_in form)) (files_before files_after : FilesState)
-        (out_before out_after err_before err_after : SinkState) (status : ℕ) →
-        CallContract form files_before files_after out_before out_after err_before err_after status →
-        (contents : List (Option (List ℕ))) → HasContents files_before.told (plan_in form) contents → status ≢ 3 → status ≢ 4 → status ≢ 6 →
+    ensures told { (form : Option Command) (one : IsDetermined (plan_in form)) (call : CallStates) (status : ℕ) → MeetsContract form call status →
+        (contents : List (Option (List ℕ))) → HasContents call.files_before.told (plan_in form) contents → status ≢ 3 → status ≢ 4 → status ≢ 6 →
         (status ≡ (one.just_one contents).0.status)
-        × Appended out_before.taken out_after.taken (one.just_one contents).0.out
-        × WroteError err_before err_after (one.just_one contents).0.err }
-    ensures part { (form : Option Command) (one : IsDetermined (plan_in form)) (files_before files_after : FilesState)
-        (out_before out_after err_before err_after : SinkState) (status : ℕ) →
-        CallContract form files_before files_after out_before out_after err_before err_after status →
-        (contents : List (Option (List ℕ))) → HasContents files_before.told (plan_in form) contents → status ≡ 4 →
-        AppendedPrefix out_before.taken out_after.taken (one.just_one contents).0.out }
+        × Appended call.out_before.taken call.out_after.taken (one.just_one contents).0.out
+        × WroteError call.err_before call.err_after (one.just_one contents).0.err }
+    ensures part { (form : Option Command) (one : IsDetermined (plan_in form)) (call : CallStates) (status : ℕ) → MeetsContract form call status →
+        (contents : List (Option (List ℕ))) → HasContents call.files_before.told (plan_in form) contents → status ≡ 4 →
+        AppendedPrefix call.out_before.taken call.out_after.taken (one.just_one contents).0.out }
 {}
 
 /// What an accepted file means for a user of the program, by the words of a call and the contract of `run`.
@@ -58,39 +54,37 @@ pub fn law_of_plans()
 ///   the run of instructions, if none of the first instructions, as many as there were cycles, fetches a byte that one
 ///   of the three before it stored.
 pub fn law_of_accepted_files()
-    ensures check_seq { (words : List (List ℕ)) (name : List ℕ) (v : Variant) (files_before files_after : FilesState) (out_before out_after err_before err_after : SinkState) →
-        form_of words ≡ Some (check_seq name v) → CallContract (form_of words) files_before files_after out_before out_after err_before err_after 0 →
-        ToldAcceptedSeq Seq v (files_before.told name) out_before out_after }
-    ensures check_plus { (words : List (List ℕ)) (name : List ℕ) (v : Variant) (files_before files_after : FilesState) (out_before out_after err_before err_after : SinkState) →
-        form_of words ≡ Some (check_plus name v) → CallContract (form_of words) files_before files_after out_before out_after err_before err_after 0 →
-        ToldAcceptedSeq SeqPlus v (files_before.told name) out_before out_after }
-    ensures check_pipe { (words : List (List ℕ)) (name : List ℕ) (v : Variant) (files_before files_after : FilesState) (out_before out_after err_before err_after : SinkState) →
-        form_of words ≡ Some (check_pipe name v) → CallContract (form_of words) files_before files_after out_before out_after err_before err_after 0 →
-        ToldAccepted v (files_before.told name) out_before out_after }
-    ensures certify_pipe { (words : List (List ℕ)) (name : List ℕ) (v : Variant) (files_before files_after : FilesState) (out_before out_after err_before err_after : SinkState) →
-        form_of words ≡ Some (certify_pipe name v) → CallContract (form_of words) files_before files_after out_before out_after err_before err_after 0 →
-        WroteCertificate v (files_before.told name) out_before out_after }
-    ensures recheck { (words : List (List ℕ)) (name cert : List ℕ) (v : Variant) (files_before files_after : FilesState) (out_before out_after err_before err_after : SinkState) →
-        form_of words ≡ Some (recheck name cert v) → CallContract (form_of words) files_before files_after out_before out_after err_before err_after 0 →
-        ToldCertified v (files_before.told name) (files_before.told cert) out_before out_after }
-    ensures recheck_part { (words : List (List ℕ)) (name cert : List ℕ) (v : Variant) (files_before files_after : FilesState) (out_before out_after err_before err_after : SinkState) →
-        form_of words ≡ Some (recheck name cert v) → CallContract (form_of words) files_before files_after out_before out_after err_before err_after 4 →
-        ToldCertifiedPart v (files_before.told name) (files_before.told cert) out_before out_after }
-    ensures recheck_never_one { (words : List (List ℕ)) (name cert : List ℕ) (v : Variant) (files_before files_after : FilesState) (out_before out_after err_before err_after : SinkState) →
-        form_of words ≡ Some (recheck name cert v) → CallContract (form_of words) files_before files_after out_before out_after err_before err_after 1 → ⊥ }
-    ensures psim { (words : List (List ℕ)) (name object : List ℕ) (size limit : ℕ) (trace : Bool) (v : Variant) (files_before files_after : FilesState)
-        (out_before out_after err_before err_after : SinkState) (status : ℕ) → form_of words ≡ Some (psim name object size limit trace true v) → status ≤ 1 →
-        CallContract (form_of words) files_before files_after out_before out_after err_before err_after status →
-        CheckedRunIsRight v size limit trace (files_before.told name) (files_before.told object) out_before out_after status
-        ⊎ AnsweredNo v (files_before.told name) out_before out_after status }
+    ensures check_seq { (words : List (List ℕ)) (name : List ℕ) (v : Variant) (call : CallStates) →
+        form_of words ≡ Some (check_seq name v) → MeetsContract (form_of words) call 0 →
+        ToldAcceptedSeq Seq v (call.files_before.told name) call.out_before call.out_after }
+    ensures check_plus { (words : List (List ℕ)) (name : List ℕ) (v : Variant) (call : CallStates) →
+        form_of words ≡ Some (check_plus name v) → MeetsContract (form_of words) call 0 →
+        ToldAcceptedSeq SeqPlus v (call.files_before.told name) call.out_before call.out_after }
+    ensures check_pipe { (words : List (List ℕ)) (name : List ℕ) (v : Variant) (call : CallStates) →
+        form_of words ≡ Some (check_pipe name v) → MeetsContract (form_of words) call 0 →
+        ToldAccepted v (call.files_before.told name) call.out_before call.out_after }
+    ensures certify_pipe { (words : List (List ℕ)) (name : List ℕ) (v : Variant) (call : CallStates) →
+        form_of words ≡ Some (certify_pipe name v) → MeetsContract (form_of words) call 0 →
+        WroteCertificate v (call.files_before.told name) call.out_before call.out_after }
+    ensures recheck { (words : List (List ℕ)) (name cert : List ℕ) (v : Variant) (call : CallStates) →
+        form_of words ≡ Some (recheck name cert v) → MeetsContract (form_of words) call 0 →
+        ToldCertified v (call.files_before.told name) (call.files_before.told cert) call.out_before call.out_after }
+    ensures recheck_part { (words : List (List ℕ)) (name cert : List ℕ) (v : Variant) (call : CallStates) →
+        form_of words ≡ Some (recheck name cert v) → MeetsContract (form_of words) call 4 →
+        ToldCertifiedPart v (call.files_before.told name) (call.files_before.told cert) call.out_before call.out_after }
+    ensures recheck_never_one { (words : List (List ℕ)) (name cert : List ℕ) (v : Variant) (call : CallStates) →
+        form_of words ≡ Some (recheck name cert v) → MeetsContract (form_of words) call 1 → ⊥ }
+    ensures psim { (words : List (List ℕ)) (name object : List ℕ) (size limit : ℕ) (trace : Bool) (v : Variant) (call : CallStates) (status : ℕ) →
+        form_of words ≡ Some (psim name object size limit trace true v) → status ≤ 1 → MeetsContract (form_of words) call status →
+        CheckedRunIsRight v size limit trace (call.files_before.told name) (call.files_before.told object) call.out_before call.out_after status
+        ⊎ AnsweredNo v (call.files_before.told name) call.out_before call.out_after status }
 {}
 
 /// For an accepted file within the limit on its length, `big` answers with status 0 that both runs gave the same
 /// report, in n + 1 steps and at most 5(n + 1) cycles, except if a read or a write failed or memory was out.
 pub fn law_of_big()
-    ensures { (words : List (List ℕ)) (n : ℕ) (name : List ℕ) (v : Variant) (files_before files_after : FilesState)
-        (out_before out_after err_before err_after : SinkState) (status : ℕ) (text : List ℕ) → form_of words ≡ Some (big n name v) →
-        files_before.told name ≡ Some (Some text) → length text ≤ 65536 → HasAccepted v (Some (Some text)) →
-        CallContract (form_of words) files_before files_after out_before out_after err_before err_after status → status ≢ 3 → status ≢ 4 → status ≢ 6 →
-        AnsweredSame n out_before out_after status }
+    ensures { (words : List (List ℕ)) (n : ℕ) (name : List ℕ) (v : Variant) (call : CallStates) (status : ℕ) (text : List ℕ) →
+        form_of words ≡ Some (big n name v) → call.files_before.told name ≡ Some (Some text) → length text ≤ 65536 → HasAccepted v (Some (Some text)) →
+        MeetsContract (form_of words) call status → status ≢ 3 → status ≢ 4 → status ≢ 6 →
+        AnsweredSame n call.out_before call.out_after status }
 {}

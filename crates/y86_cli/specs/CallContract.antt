@@ -6,7 +6,7 @@ use Rattle.cli_plans.specs.declared.stop_reason.StopReason as code
 use Rattle.cli_plans.specs.declared.stop_reason.StopReason.TheVariants.{Usage}
 use Rattle.y86_cli.specs.Answers.{plan_in, plan_of}
 use Rattle.cli_plans.specs.CallOutcome.{IsPermitted, IsReached}
-use Rattle.cli_plans.specs.PlanFollowing.{FollowsPlan, FilesState, SinkState}
+use Rattle.cli_plans.specs.PlanFollowing.{CallStates, FollowsPlan, FilesState, SinkState}
 use Rattle.y86_words.specs.Forms.{Command}
 use Rattle.cli_plans.specs.Lines.{memory_line, read_fault_line}
 use Rattle.cli_plans.specs.Plan.{Answer, IsFaultless, Plan, HasContents}
@@ -53,3 +53,8 @@ pub record CallContract (form : Option Command) (files_before files_after : File
   -- or 1, or memory was out
   pub complete : (contents : List (Option (List ℕ))) → HasContents files_before.told (plan_in form) contents → IsFaultless (plan_in form) contents →
       status ≢ 3 → status ≢ 4 → (status ≡ 6) ⊎ (status ≤ 1)
+
+-- the same for the states before and after the call
+abbrev pub MeetsContract : Option Command → CallStates → ℕ → Type 0
+MeetsContract form call status =
+    CallContract form call.files_before call.files_after call.out_before call.out_after call.err_before call.err_after status

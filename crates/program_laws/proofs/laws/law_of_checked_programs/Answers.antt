@@ -3,11 +3,11 @@ use Rattle.program_laws.proofs.laws.law_of_checked_programs.Goals as goal
 
 pub returns-clause-psim : goal.returns-clause-psim
 returns-clause-psim c =
-    λ words name object text bytes image size limit most steps trace v files_before files_after out_before out_after err_before err_after status is told short accepted told_object short_object loads watched.
-    prints_run words name object text bytes image size limit steps trace v files_before files_after out_before out_after err_before err_after status is told short accepted told_object short_object loads
+    λ words name object text bytes image size limit most steps trace v call status is told short accepted told_object short_object loads watched.
+    prints_run words name object text bytes image size limit steps trace v call status is told short accepted told_object short_object loads
     (watched_stops v image most steps watched) (watched_near v image most steps watched)
 
 pub returns-clause-yis : goal.returns-clause-yis
 returns-clause-yis c =
-    λ words object bytes image size limit most steps v files_before files_after out_before out_after err_before err_after status is told short loads watched.
-    prints_report words object bytes image size limit steps v files_before files_after out_before out_after err_before err_after status is told short loads (watched_stops v image most steps watched)
+    λ words object bytes image size limit most steps v call status is told short loads watched.
+    prints_report words object bytes image size limit steps v call status is told short loads (watched_stops v image most steps watched)

@@ -7,6 +7,6 @@ returns-clause-refines c = λ v told h image k is pure. h.refines image k is (ne
 
 pub returns-clause-psim : goal.returns-clause-psim
 returns-clause-psim c =
-    λ words name object text bytes image size limit steps trace v files_before files_after out_before out_after err_before err_after status is told short accepted told_object short_object loads stops pure.
-    prints_run words name object text bytes image size limit steps trace v files_before files_after out_before out_after err_before err_after status is told short accepted told_object short_object loads stops
+    λ words name object text bytes image size limit steps trace v call status is told short accepted told_object short_object loads stops pure.
+    prints_run words name object text bytes image size limit steps trace v call status is told short accepted told_object short_object loads stops
     (λ k. near_from_pure v image k (pure k))
