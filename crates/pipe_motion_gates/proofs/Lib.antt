@@ -1,4 +1,3 @@
 pub mod Atoms
 pub mod Codes
-pub mod Legal
 pub mod Shows
