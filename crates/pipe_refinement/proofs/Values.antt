@@ -1,5 +1,5 @@
 -- The values of a cycle are those of the instructions in E and M.
-use Rattle.std.proofs.Common.{◌≡◌, ◌≢◌, ℕ, Bool, true, false, ◌&&◌, ◌||◌, ◌==◌, cond, List, None, refl, sym, ap, ◌∙◌}
+use Rattle.std.proofs.Common.{◌≡◌, ◌≢◌, ℕ, Bool, true, false, ◌&&◌, ◌||◌, ◌==◌, cond, List, None, refl, sym, ap, ◌∙◌, ne_of_lt}
 use Rattle.std.proofs.lemmas.Bool.{false≢true, eq-eqb, or_left, or_right, and_left, and_right}
 use Rattle.y86_base.specs.Stat.{stat_number}
 use Rattle.y86_base.specs.declared.parts.Stat.TheVariants.{Adr}

@@ -4,7 +4,8 @@ use Rattle.ctl_verdicts.specs.Decisions.{IsRuleDecision}
 use Rattle.ctl_verdicts.specs.declared.decision.FailedRule.{FailedRule}
 use Rattle.seq_diagnosis.specs.declared.refusal.Refutation.{Refutation}
 use Rattle.seq_refusals.specs.Answered.{AreRefuted}
-use Rattle.seq_refusals.proofs.Refuting.{gates_of, next_holds, next_refuted, one_false, one_true, place_one}
+use Rattle.seq_check.proofs.Decided.{gates_of}
+use Rattle.seq_refusals.proofs.Refuting.{next_holds, next_refuted, one_false, one_true, place_one}
 use Rattle.seq_refusals.proofs.answer.refute_at.Goals as goal
 
 pub decide_one-requires : goal.decide_one-requires
