@@ -82,15 +82,15 @@ pub(crate) fn rules_told(
     ensures rules { IfOk result (λ list. AreRuleGates v s.now b.new ctl.now atoms.now list.items) }
 {
     let p = premises_of(b, v, s, atoms)?;
-    let inputs = RuleInputs {
-        variant: v,
-        settings: s,
-        controls: ctl,
-        flow: &p.flow,
-    };
     let mut list = Vec::new(alloc);
     for i in 0..RULE_COUNT {
         let number = i + 1;
+        let inputs = RuleInputs {
+            variant: v,
+            settings: s,
+            controls: ctl,
+            flow: &p.flow,
+        };
         let demand = demand_gate(b, &inputs, number)?;
         let premise = one_of(is_always_demanded(number as u64), p.always, p.going);
         let gate = implies(b, premise, demand)?;
