@@ -4,7 +4,7 @@ import os
 import re
 
 from helpers.cases import cases
-from helpers.paths import TOP
+from helpers.paths import TOP, needs
 
 SHOWS = re.compile(r"shows: (?:clause `(?P<clause>\w+)`|the clause) of `(?P<function>\w+)`: \S.*")
 EDITS = sorted(
@@ -24,8 +24,7 @@ def sources(crate):
 def contracts(crate, function):
     """The clauses of each function of this name in a crate, by their names: that of a clause without a name is None. A method's contract stands
     in the trait, perhaps in a crate that this one needs."""
-    needed = next(line.split()[1:] for line in read("crates.txt").split("\n") if line.startswith(f"{crate}:"))
-    traits = (it for name in needed for text in sources(name) for it in re.findall(r"^pub trait .*?^\}", text, flags=re.M | re.S))
+    traits = (it for name in needs()[crate] for text in sources(name) for it in re.findall(r"^pub trait .*?^\}", text, flags=re.M | re.S))
     for text in (*sources(crate), *traits):
         for head in re.findall(rf"^[^\n/]*\bfn {function}\b(.*?)(?:^ *\{{|\{{\n|;\n)", text, flags=re.M | re.S):
             yield [name or None for name in re.findall(r"^ *ensures (?:(\w+) )?\{", head, flags=re.M)]

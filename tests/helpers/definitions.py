@@ -6,7 +6,7 @@ import sys
 if __name__ == "__main__":
     sys.path.insert(0, os.path.dirname(os.path.dirname(os.path.realpath(__file__))))
 
-from helpers.paths import TOP
+from helpers.paths import TOP, needs
 
 PAGE = f"{TOP}/docs/INDEX.md"
 HEAD = """# Where is it defined?
@@ -43,12 +43,7 @@ def sentence(text):
 
 def needed():
     """For each crate of crates.txt the crates that it needs, without those that another of them needs."""
-    rows = {}
-    with open(f"{TOP}/crates.txt", encoding="utf-8") as lines:
-        for line in lines:
-            if ":" in line and not line.startswith("#"):
-                name, below = line.split(":")
-                rows[name.strip()] = below.split()
+    rows = needs()
     everything = {}
 
     def under(name):

@@ -16,3 +16,10 @@ def names(folder, ending):
 
 def pipeline_designs():
     return [name for name in names(DESIGNS, ".hcl") if name not in SEQUENTIAL]
+
+
+def needs():
+    """For each crate the crates and libraries that its line of crates.txt names."""
+    with open(f"{TOP}/crates.txt", encoding="utf-8") as it:
+        lines = [line.split(":") for line in it if ":" in line and not line.startswith("#")]
+    return {crate.split()[0]: names.split() for crate, names in lines}
