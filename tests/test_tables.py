@@ -78,6 +78,12 @@ ROWS = [
     ("the gate of an obligation", "crates/hazard_rules/src/demands.rt", "27 => obligation_27(b, ctl, y),", "\n        28 => obligation_28(b, ctl, y),", {
         "crates/pipe_obligations/src/lib.rt": ["pub const RULE_COUNT: u32 = 28;"],
     }),
+    ("what an obligation requires", "crates/pipe_requirements/specs/Requirements.antt", "required21 ∷ required22", " ∷ required23", {
+        "crates/pipe_requirements/specs/Requirements.antt": ["first_on_motion = 24"],
+    }),
+    ("what an obligation requires in code", "crates/pipe_requirements/src/listing.rt", "22 => put_22(out, n),", "\n        23 => put_23(out, n),", {
+        "crates/pipe_requirements/src/lib.rt": ["pub const FIRST_ON_MOTION: u32 = 24;"],
+    }),
 ]
 
 

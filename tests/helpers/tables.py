@@ -293,8 +293,8 @@ def of_line():
 
 
 def of_obligations():
-    """The number of obligations of PIPE, and of SEQ, whose last one isn't in its list."""
-    pipe, seq = "crates/pipe_obligations", LINES
+    """The number of obligations of PIPE, and of SEQ, whose last one isn't in its list; the first obligation on motion."""
+    pipe, seq, required = "crates/pipe_obligations", LINES, "crates/pipe_requirements"
     spec, shared, code, numbered = f"{pipe}/specs/Rules.antt", f"{seq}/specs/Obligations.antt", f"{pipe}/src/lib.rt", f"{seq}/src/numbered.rt"
     demanded = {
         spec: len(re.findall(r"\bo\d+ v s", body(read(spec), "demands"))),
@@ -305,7 +305,13 @@ def of_obligations():
         numbered: len(re.findall(r"^            \d+ => ", read(f"{seq}/src/demands.rt"), re.M)) + 1,
     }
     made = {path: put(r"^rule_count = \d+$", f"rule_count = {count}", read(path)) for path, count in demanded.items()}
-    return made | {path: put(r"^pub const RULE_COUNT: u32 = \d+;$", f"pub const RULE_COUNT: u32 = {count};", read(path)) for path, count in arms.items()}
+    made |= {path: put(r"^pub const RULE_COUNT: u32 = \d+;$", f"pub const RULE_COUNT: u32 = {count};", read(path)) for path, count in arms.items()}
+    spec, code = f"{required}/specs/Requirements.antt", f"{required}/src/lib.rt"
+    first = len(re.findall(r"\brequired\d+", found(r"^  required =\n(.*?)\n\n", read(spec)))) + 1
+    made[spec] = put(r"^first_on_motion = \d+$", f"first_on_motion = {first}", read(spec))
+    first = len(re.findall(r"^        \d+ => put_", read(f"{required}/src/listing.rt"), re.M)) + 1
+    made[code] = put(r"^pub const FIRST_ON_MOTION: u32 = \d+;$", f"pub const FIRST_ON_MOTION: u32 = {first};", read(code))
+    return made
 
 
 def made():
