@@ -23,10 +23,10 @@ ROWS = [
     ("the same in code", "crates/dp_signals/src/pipe_signals.rt", 'TableRow(b"W_bubble", Class::Truth, RowSource::Defined),', '\n    TableRow(b"W_moreA", Class::Truth, RowSource::Defined),', {
         "crates/dp_signals/src/pipe_row.rt": ["pub const COUNT: NameId = DEFINED + 40;", "pub const W_MORE_A: NameId = DEFINED + 39;"],
     }),
-    ("a signal of PIPE's state", "crates/dp_signals/specs/PipeTable.antt", 'codes "M_Cnd"', ' ∷ codes "M_more"', {
+    ("a signal of PIPE's state", "crates/dp_signals/specs/PipeTable.antt", '(codes "M_Cnd", λ p. p.m.cnd)', ' ∷ (codes "M_more", λ p. p.m.more)', {
         "crates/dp_signals/specs/PipeNames.antt": ["hardware = state + 33", "M_more = state + 32", "imem_icode = hardware + 0"],
     }),
-    ("a signal of PIPE's state in code", "crates/dp_signals/src/pipe_signals.rt", 'TableRow(b"M_Cnd", Class::Truth, RowSource::State),', '\n    TableRow(b"M_more", Class::Truth, RowSource::State),', {
+    ("a signal of PIPE's state in code", "crates/dp_signals/src/pipe_signals.rt", '[b"M_Cnd" Truth HELD_M_CND m.cnd]', '\n            [b"M_more" Truth HELD_M_MORE m.more]', {
         "crates/dp_signals/src/pipe_row.rt": ["pub const HARDWARE: NameId = STATE + 33;", "pub const HELD_M_MORE: NameId = STATE + 32;"],
     }),
     ("a signal of SEQ and SEQ+", "crates/dp_signals/specs/SequentialTables.antt", 'codes "mem_data"', ' ∷ codes "mem_more"', {
@@ -114,7 +114,7 @@ def given(text, kind, datapath):
 
 # The lists of the workbench for a datapath, and the tables that have the same names.
 NAMES = [
-    ("pipe", "PipeTable", ["pipe_state", "pipe_hardware"], "pipe_defined"),
+    ("pipe", "PipeTable", ["state_signals", "pipe_hardware"], "pipe_defined"),
     ("seq", "SeqTable", ["seq_state"], "seq_defined"),
 ]
 

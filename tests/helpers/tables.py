@@ -122,7 +122,7 @@ def of_signals():
         f"{SIGNALS}/specs/PipeTable", f"{SIGNALS}/specs/SeqTable", f"{PLUS}/specs/PlusTable", f"{SIGNALS}/specs/SequentialTables"))
     control, hardware = in_definition(shared, "control_rows"), in_definition(shared, "hardware_rows")
     tables = {
-        f"{SIGNALS}/specs/PipeNames.antt": {group: in_definition(pipe, f"pipe_{group}") for group in GROUPS},
+        f"{SIGNALS}/specs/PipeNames.antt": {group: in_definition(pipe, it) for group, it in zip(GROUPS, ("state_signals", "pipe_hardware", "pipe_defined"))},
         f"{SIGNALS}/specs/SeqNames.antt": {"state": in_definition(seq, "seq_state"), "hardware": hardware, "defined": in_definition(seq, "seq_defined", control)},
         f"{PLUS}/specs/PlusNames.antt": {"state": in_definition(plus, "plus_state"), "hardware": hardware, "defined": in_definition(plus, "plus_defined", control)},
     }
@@ -131,7 +131,7 @@ def of_signals():
     rows = numbered({"hardware": hardware, "control": control}, lambda name, first, k: f"      {name} = {first} + {k};\n")
     made[path] = put(r"(?<=      pc = pc;\n).*?(?=    \}\n)", rows, read(path))
     path = f"{SIGNALS}/specs/Tables.antt"
-    count = len(re.findall("codes", body(read(path), "constant_rows")))
+    count = len(re.findall("codes", body(read(path), "named_constants")))
     made[path] = put(r"^constant_count = \d+$", f"constant_count = {count}", read(path))
     return made
 
@@ -141,7 +141,7 @@ def of_signals_in_code():
     pipe, seq, plus, shared = (read(f"{it}.rt") for it in (
         f"{SIGNALS}/src/pipe_signals", f"{SIGNALS}/src/seq_signals", f"{PLUS}/src/table", f"{SIGNALS}/src/sequential_tables"))
     control, hardware = in_code(shared, "CONTROL"), lines_in_macro(shared, "hardware_lines")
-    of_pipe = {group: in_code(pipe, group.upper()) for group in GROUPS}
+    of_pipe = {"state": lines_in_macro(pipe, "state_signals"), **{group: in_code(pipe, group.upper()) for group in GROUPS[1:]}}
     of_seq, of_plus = ({"state": in_code(it, "STATE"), "hardware": hardware, "defined": defined_in_code(it, control)} for it in (seq, plus))
     pipe_row, seq_row, plus_row, rows = f"{SIGNALS}/src/pipe_row.rt", f"{SIGNALS}/src/seq_row.rt", f"{PLUS}/src/row.rt", f"{SIGNALS}/src/sequential_rows.rt"
     made = {

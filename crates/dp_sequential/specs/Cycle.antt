@@ -22,7 +22,8 @@ worked_by r m n f =
     else (if n == r.val_e then alu_value (f r.alufun) (f r.alu_a) (f r.alu_b)
     else (if n == r.cnd then bit (condition (f r.ifun) m.flags)
     else (if n == r.val_m then data_read m.mem (f r.mem_addr) (set (f r.mem_read))
-    else bit (data_error m.mem (f r.mem_addr) (set (f r.mem_read)) (set (f r.mem_write)))))))
+    else (if n == r.dmem_error then bit (data_error m.mem (f r.mem_addr) (set (f r.mem_read)) (set (f r.mem_write)))
+    else 0)))))
 
 -- the value of a hardware row in a cycle on the machine m: the fetched fields and words, and the rows of worked_by
 unfoldable pub fetched_by : SignalRows → Machine → ℕ → (ℕ → ℕ) → ℕ

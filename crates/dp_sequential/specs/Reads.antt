@@ -1,5 +1,5 @@
 -- The hardware of a sequential datapath reads only the rows that its table lists.
-use Rattle.std.proofs.Common.{◌≡◌, ℕ, ◌+◌, ◌<◌, List, [], ◌∷◌, ◌++◌, length, map, get_or, refl, ap, subst, arith}
+use Rattle.std.proofs.Common.{◌≡◌, ℕ, ◌+◌, List, [], ◌∷◌, ◌++◌, map, get_or, refl, ap, subst, arith}
 use Rattle.std.specs.List.{AllByRecursion}
 use Rattle.y86_base.specs.Registers.{register}
 use Rattle.y86_base.specs.Words.{set}
@@ -41,7 +41,7 @@ module _ (pc hardware control : ℕ) (pcs : List ℕ) (v : Variant) (m : Machine
   abbrev Alike : (ℕ → ℕ) → (ℕ → ℕ) → ℕ → Type 0
   Alike f g k = AllByRecursion (λ n. f n ≡ g n) (get_or (map (λ (row : Row). inputs row.role) rows) k [])
 
-  module _ (k : ℕ) (f g : ℕ → ℕ) (lt : k < 13) (alike : Alike f g k) where
+  module _ (k : ℕ) (f g : ℕ → ℕ) (alike : Alike f g k) where
     at : (j : ℕ) → hardware + k ≡ hardware + j → Alike f g j
     at j e = let same : k ≡ j = omega (arith, e) in subst (Alike f g) same alike
 
@@ -66,11 +66,9 @@ module _ (pc hardware control : ℕ) (pcs : List ℕ) (v : Variant) (m : Machine
         (λ ge. by_row (hardware + k) r.val_e _ _ _ _ (omega (arith, ge)) (λ e. let p = at 9 e in three (λ x y z. alu_value z x y) p.0 p.1.0 p.1.1.0)
         (λ ge. by_row (hardware + k) r.cnd _ _ _ _ (omega (arith, ge)) (λ e. ap (λ x. bit (condition x m.flags)) (at 10 e).0)
         (λ ge. by_row (hardware + k) r.val_m _ _ _ _ (omega (arith, ge)) (λ e. let p = at 11 e in two (λ x y. data_read m.mem x (set y)) p.0 p.1.0)
-        (λ ge. let p = at 12 (omega (arith, ge, lt)) in three (λ x y z. bit (data_error m.mem x (set y) (set z))) p.0 p.1.0 p.1.1.0))))))))))))
-
-  thirteen : length rows ≡ 13
-  thirteen = refl
+        (λ ge. by_row (hardware + k) r.dmem_error _ _ _ _ (omega (arith, ge)) (λ e. let p = at 12 e in three (λ x y z. bit (data_error m.mem x (set y) (set z))) p.0 p.1.0 p.1.1.0)
+        (λ ge. refl)))))))))))))
 
   pub hardware_reads : (first : ℕ) → ReadsInputs (hardware_rows (rows_from pc hardware control) pcs) hardware first
       (λ n f. block_by (rows_from pc hardware control) v (record m { pc = pc_of f }) n f)
-  hardware_reads first k f g lt h = reads k f g (omega (arith, lt, thirteen)) h
+  hardware_reads first k f g lt h = reads k f g h

@@ -51,13 +51,15 @@ fn worked(rows: &SignalRows, m: End<'_>, row: NameId, values: &[u64]) -> u64
         cnd(at(values, rows.ifun), m.flags)
     } else if row == rows.val_m {
         val_m(m.mem, at(values, rows.mem_addr), at(values, rows.mem_read))
-    } else {
+    } else if row == rows.dmem_error {
         dmem_error(
             m.mem,
             at(values, rows.mem_addr),
             at(values, rows.mem_read),
             at(values, rows.mem_write),
         )
+    } else {
+        0
     }
 }
 

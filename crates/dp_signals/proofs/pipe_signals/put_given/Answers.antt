@@ -2,7 +2,7 @@ use Rattle.std.proofs.Common.{rules, ◌≡◌, length}
 use Rattle.dp_signals.specs.PipeNames as row
 use Rattle.dp_signals.specs.PipeEquations.{state_words}
 use Rattle.dp_signals.proofs.PipeRules.{state_put}
-use Rattle.dp_signals.proofs.pipe_values.put_given.Goals as goal
+use Rattle.dp_signals.proofs.pipe_signals.put_given.Goals as goal
 
 pub returns : goal.returns
 unfolding state_words
