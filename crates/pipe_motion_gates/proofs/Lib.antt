@@ -1,3 +1,4 @@
 pub mod Atoms
 pub mod Codes
+pub mod Legal
 pub mod Shows
