@@ -57,11 +57,11 @@ pub(crate) fn demand_gate(
         20 => obligation_20(b, ctl),
         21 => obligation_21(b, ctl, y.w.good),
         22 => obligation_22(b, ctl, y.w.good),
-        23 => obligation_23(b, ctl),
-        24 => obligation_24(b, ctl, y),
+        23 => obligation_23(b, inputs),
+        24 => obligation_24(b, inputs),
         25 => obligation_25(b, inputs),
-        26 => obligation_26(b, ctl, y),
-        27 => obligation_27(b, ctl, y),
+        26 => obligation_26(b, inputs),
+        27 => obligation_27(b, inputs),
         _ => unreachable!(),
     }
 }
