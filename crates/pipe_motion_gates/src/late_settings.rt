@@ -1,5 +1,5 @@
 //! The gates that decide lf, je and rm: a setting is 1 if its gate is false at some valuation.
-ghost use Rattle.std.specs.Prelude.{◌≡◌, ◌<◌, ◌≤◌, ◌+◌, ◌&&◌, if◌then◌else◌, IfOk, length, not};
+ghost use Rattle.std.specs.Prelude.{◌≡◌, ◌<◌, ◌&&◌, if◌then◌else◌, IfOk, length, not};
 ghost use Rattle.nets.specs.Nets.{ExtendsNet, truth};
 ghost use Rattle.ctl_atoms.specs.declared.leaf.Leaf.TheVariants.{Name};
 ghost use Rattle.ctl_picks.specs.Picks.{Covers, IsInside};
@@ -8,11 +8,12 @@ ghost use Rattle.dp_signals.specs.PipeNames as names;
 ghost use Rattle.dp_signals.specs.PipeTable.{pipe_rows};
 ghost use Rattle.ctl_rules.specs.ControlGates.{IsControlGate};
 ghost use Rattle.ctl_rules.specs.ColumnDemands as words;
-ghost use Rattle.pipe_fields.specs.Layout.{bit_count, fields_of};
+ghost use Rattle.pipe_fields.specs.Layout.{fields_of};
 ghost use Rattle.pipe_motion.specs.Gates.{IsFlow, flow_at};
 ghost use Rattle.pipe_obligations.specs.Obligations.{register_controls_of};
 ghost use Rattle.pipe_gates.specs.GateTruths.{IsAtomGate, IsTruthGate};
 ghost use Rattle.pipe_gates.specs.Inputs.{IsRuleReady};
+ghost use Rattle.pipe_motion_gates.specs.Legality.{HasAtomVariables};
 ghost use Rattle.pipe_obligations.specs.FileSettings.{leaves_past_load, may_witness, permissive, witnesses_je, witnesses_lf, witnesses_rm};
 ghost use Rattle.pipe_obligations.specs.StageFlows.{is_jump, flow_of};
 
@@ -95,8 +96,7 @@ fn permissive_legal(
     s: &Settings,
     atoms: &[Atom],
 ) -> Result<PermissiveFlow, Memory>
-    requires vars { bit_count + length atoms.now ≤ b.old.vars }
-    requires few { length atoms.now ≤ 64 }
+    requires has { HasAtomVariables b.old atoms.now }
     requires free { permissive s.now ≡ s.now }
     ensures extends { ExtendsNet b.old b.new }
     ensures flow { IfOk result (λ r. IsFlow b.new r.flow (λ w. flow_of v s.now (fields_of w))) }
@@ -127,8 +127,7 @@ pub fn late_gates(
 ) -> Result<Late, Memory>
     requires inside { IsInside b.old ctl.now }
     requires known { Covers pipe_rows ctl.now }
-    requires vars { bit_count + length atoms.now ≤ b.old.vars }
-    requires few { length atoms.now ≤ 64 }
+    requires has { HasAtomVariables b.old atoms.now }
     requires free { permissive s.now ≡ s.now }
     ensures extends { ExtendsNet b.old b.new }
     ensures late { IfOk result (λ r. IsTruthGate b.new ctl.now atoms.now r.lf (λ c α cv. not (witnesses_lf v s.now atoms.now c α cv))) }

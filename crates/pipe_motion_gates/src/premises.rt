@@ -1,5 +1,5 @@
 //! Gates of the premises: the valuations at which each obligation is demanded.
-ghost use Rattle.std.specs.Prelude.{◌≡◌, ◌≤◌, ◌+◌, ◌==◌, ◌&&◌, length, IfOk};
+ghost use Rattle.std.specs.Prelude.{◌≡◌, ◌≤◌, ◌==◌, ◌&&◌, IfOk};
 ghost use Rattle.nets.specs.Nets.{ExtendsNet, IsGate, agree};
 ghost use Rattle.y86_base.specs.Words.{set};
 ghost use Rattle.pipe_fields.specs.Layout.{bit_count, fields_of};
@@ -27,8 +27,7 @@ pub fn premise_gate(
     y: &FlowGates,
     always: bool,
 ) -> Result<u64, Memory>
-    requires vars { bit_count + length atoms.now ≤ b.old.vars }
-    requires few { length atoms.now ≤ 64 }
+    requires has { built.HasAtomVariables b.old atoms.now }
     requires flow { IsFlow b.old y.now (λ w. spec.flow_of v s.now (fields_of w)) }
     ensures extends { ExtendsNet b.old b.new }
     ensures has_truth { IfOk result (λ g. IsAtomGate b.new atoms.now g (λ w α. built.premise_when v s.now atoms.now always (fields_of w) α)) }
@@ -71,8 +70,7 @@ pub fn prediction_premise(
     ifun: u64,
     back: bool,
 ) -> Result<u64, Memory>
-    requires vars { bit_count + length atoms.now ≤ b.old.vars }
-    requires few { length atoms.now ≤ 64 }
+    requires has { built.HasAtomVariables b.old atoms.now }
     requires fits { IsGate b.old fits (λ w. allowed v (fields_of w)) }
     ensures extends { ExtendsNet b.old b.new }
     ensures has_truth { IfOk result (λ g. IsAtomGate b.new atoms.now g (λ w α. allowed v (fields_of w) && (spec.fetched_jump v (fields_of w)

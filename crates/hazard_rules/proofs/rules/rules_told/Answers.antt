@@ -18,7 +18,7 @@ use Rattle.hazard_rules.proofs.rules.rules_told.Goals as goal
 pub demand_gate-requires-clause-ready : goal.demand_gate-requires-clause-ready
 demand_gate-requires-clause-ready c =
     let old = c.loop-i.invariant in
-    inputs_ready c.args.atoms.now old.begins c.requires.inside c.requires.covers c.requires.vars old.flow.within
+    inputs_ready old.begins c.requires.inside c.requires.covers c.requires.has old.flow.within
 
 pub loop-i-preserved : goal.loop-i-preserved
 unfolding demand_at is_demanded premise_when
