@@ -75,7 +75,7 @@ ROWS = [
     ("an obligation", "crates/pipe_obligations/specs/Rules.antt", "o27 v s c y mv α cv", " ∷ o28 v s c y mv α cv", {
         "crates/pipe_obligations/specs/Rules.antt": ["rule_count = 28"],
     }),
-    ("the gate of an obligation", "crates/hazard_rules/src/demands.rt", "27 => obligation_27(b, ctl, y),", "\n        28 => obligation_28(b, ctl, y),", {
+    ("the gate of an obligation", "crates/hazard_rules/src/demands.rt", "27 => obligation_27(b, inputs),", "\n        28 => obligation_28(b, inputs),", {
         "crates/pipe_obligations/src/lib.rt": ["pub const RULE_COUNT: u32 = 28;"],
     }),
     ("what an obligation requires", "crates/pipe_requirements/specs/Requirements.antt", "required21 ∷ required22", " ∷ required23", {

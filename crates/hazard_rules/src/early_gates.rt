@@ -1,15 +1,16 @@
 //! The gates that decide the settings pt, pb and tv of a file.
-ghost use Rattle.std.specs.Prelude.{◌<◌, ◌≤◌, ◌+◌, length, true, false, IfOk};
+ghost use Rattle.std.specs.Prelude.{true, false, IfOk};
 ghost use Rattle.nets.specs.Nets.{ExtendsNet, IsGate};
 ghost use Rattle.ctl_picks.specs.Picks.{Covers, IsInside};
 ghost use Rattle.dp_signals.specs.PipeTable.{pipe_rows};
 ghost use Rattle.hazard_rules.specs.Parts.{ArePredictionGates};
 ghost use Rattle.pipe_gates.specs.GateTruths.{IsTruthGate};
 ghost use Rattle.pipe_fields.specs.Allowed as spec;
-ghost use Rattle.pipe_fields.specs.Layout.{bit_count, fields_of};
+ghost use Rattle.pipe_fields.specs.Layout.{fields_of};
 ghost use Rattle.pipe_motion.specs.declared.settings.Settings.{Settings};
 ghost use Rattle.ctl_rules.specs.ControlGates.{IsControlGate};
 ghost use Rattle.pipe_obligations.specs.FileSettings.{alu_passes_target};
+ghost use Rattle.pipe_motion_gates.specs.Legality.{HasAtomVariables};
 ghost use Rattle.pipe_stage_gates.specs.Signals.{IsReady};
 
 use ctl_atoms::{Atom, Leaf};
@@ -26,7 +27,7 @@ use y86_base::{Memory, Variant};
 
 /// For each of the seven ifuns: if a jump with this ifun that goes back, or (without `back`) doesn't, is fetched, it is
 /// predicted as taken: f_predPC is f_valC. `fits` is the gate of the valuations that are allowed.
-#[tactic(auto, using(nets::proofs::Truths::begins_more, ctl_picks::proofs::Inside::inside_more, pipe_gates::proofs::Known::known_f_predPC))]
+#[tactic(auto, using(nets::proofs::Truths::begins_more, ctl_picks::proofs::Inside::inside_more, pipe_gates::proofs::Known::known_f_predPC, pipe_motion_gates::proofs::Inputs::variables_stay))]
 pub(crate) fn predictions(
     b: &mut NetBuilder,
     ctl: &Controls,
@@ -38,8 +39,7 @@ pub(crate) fn predictions(
     requires inside { IsInside b.old ctl.now }
     requires covers { Covers pipe_rows ctl.now }
     requires fits { IsGate b.old fits (λ w. spec.allowed v (fields_of w)) }
-    requires vars { bit_count + length atoms.now ≤ b.old.vars }
-    requires few { length atoms.now ≤ 64 }
+    requires has { HasAtomVariables b.old atoms.now }
     ensures extends { ExtendsNet b.old b.new }
     ensures has_truth { IfOk result (λ gates. ArePredictionGates v b.new ctl.now atoms.now back gates 7) }
 {
@@ -80,7 +80,7 @@ pub(crate) struct EarlyGates {
 }
 
 /// The gates that decide pt, pb and tv.
-#[tactic(auto, using(pipe_stage_gates::proofs::Ready::ready_by, ctl_picks::proofs::Inside::inside_more))]
+#[tactic(auto, using(pipe_stage_gates::proofs::Ready::ready_by, ctl_picks::proofs::Inside::inside_more, pipe_motion_gates::proofs::Inputs::variables_stay))]
 pub(crate) fn early_formulas(
     b: &mut NetBuilder,
     ctl: &Controls,
@@ -89,8 +89,7 @@ pub(crate) fn early_formulas(
 ) -> Result<EarlyGates, Memory>
     requires inside { IsInside b.old ctl.now }
     requires covers { Covers pipe_rows ctl.now }
-    requires vars { bit_count + length atoms.now ≤ b.old.vars }
-    requires few { length atoms.now ≤ 64 }
+    requires has { HasAtomVariables b.old atoms.now }
     ensures extends { ExtendsNet b.old b.new }
     ensures forward { IfOk result (λ r. ArePredictionGates v b.new ctl.now atoms.now false r.pt 7) }
     ensures backward { IfOk result (λ r. ArePredictionGates v b.new ctl.now atoms.now true r.pb 7) }

@@ -13,7 +13,7 @@
 //! | 18 to 22 | `pipe_stage_gates` | `memory` | `obligation_18` to `obligation_22` |
 //! | 23, 24, 26, 27 | `pipe_motion_gates` | `motion` | `obligation_23`, `obligation_24`, `obligation_26`, `obligation_27` |
 //! | 25 | `pipe_motion_gates` | `fetch` | `obligation_25` |
-#![tactic(auto, using(nets::proofs::Truths::begins_more, nets::proofs::Truths::begins_self))]
+#![tactic(auto, using(nets::proofs::Truths::begins_more, nets::proofs::Truths::begins_self, pipe_motion_gates::proofs::Inputs::variables_stay))]
 
 mod demands;
 mod design;

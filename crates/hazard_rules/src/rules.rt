@@ -1,9 +1,9 @@
 //! The 27 obligations as gates.
-ghost use Rattle.std.specs.Prelude.{◌≡◌, ◌≤◌, ◌+◌, false, true, if◌then◌else◌, length, IfOk};
+ghost use Rattle.std.specs.Prelude.{◌≡◌, false, true, if◌then◌else◌, length, IfOk};
 ghost use Rattle.nets.specs.Nets.{ExtendsNet};
 ghost use Rattle.ctl_picks.specs.Picks.{Covers, IsInside};
 ghost use Rattle.dp_signals.specs.PipeTable.{pipe_rows};
-ghost use Rattle.pipe_fields.specs.Layout.{bit_count, fields_of};
+ghost use Rattle.pipe_fields.specs.Layout.{fields_of};
 ghost use Rattle.pipe_motion.specs.Gates.{IsFlow};
 ghost use Rattle.ctl_rules.specs.declared.rules.Rule.{Rule};
 ghost use Rattle.hazard_rules.specs.Parts.{AreRuleGates};
@@ -40,8 +40,7 @@ fn premises_of(
     s: &Settings,
     atoms: &[Atom],
 ) -> Result<Premises, Memory>
-    requires vars { bit_count + length atoms.now ≤ b.old.vars }
-    requires few { length atoms.now ≤ 64 }
+    requires has { built.HasAtomVariables b.old atoms.now }
     ensures extends { ExtendsNet b.old b.new }
     ensures flow { IfOk result (λ p. IsFlow b.new p.flow (λ w. flow_of v s.now (fields_of w))) }
     ensures always { IfOk result (λ p. IsAtomGate b.new atoms.now p.always (λ w α. built.premise_when v s.now atoms.now true (fields_of w) α)) }
@@ -75,8 +74,7 @@ pub(crate) fn rules_told(
 ) -> Result<Vec<Rule>, Memory>
     requires inside { IsInside b.old ctl.now }
     requires covers { Covers pipe_rows ctl.now }
-    requires vars { bit_count + length atoms.now ≤ b.old.vars }
-    requires few { length atoms.now ≤ 64 }
+    requires has { built.HasAtomVariables b.old atoms.now }
     ensures extends { ExtendsNet b.old b.new }
     ensures count { IfOk result (λ list. length list.items ≡ spec.rule_count) }
     ensures rules { IfOk result (λ list. AreRuleGates v s.now b.new ctl.now atoms.now list.items) }

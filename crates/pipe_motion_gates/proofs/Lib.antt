@@ -1,3 +1,5 @@
 pub mod Atoms
 pub mod Codes
+pub mod Inputs
+pub mod Legal
 pub mod Shows

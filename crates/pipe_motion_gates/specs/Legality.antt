@@ -1,16 +1,22 @@
--- The parts of legal valuations in the form in which their gates are built.
-use Rattle.std.specs.Prelude.{Bool, not, ◌&&◌, ◌||◌, ◌==◌, List}
+-- The parts of legal valuations in the form in which their gates are built, and the variables that these gates need.
+use Rattle.std.specs.Prelude.{Bool, not, ◌&&◌, ◌||◌, ◌==◌, ◌+◌, ◌≤◌, List, length}
 use Rattle.y86_base.specs.declared.parts.Variant.{Variant}
 use Rattle.y86_isa.specs.Table.{row}
 use Rattle.y86_isa.specs.RowTests.{stores_val_a}
+use Rattle.nets.specs.Nets.{Gates}
 use Rattle.ctl_atoms.specs.declared.leaf.Atom.{Atom}
 use Rattle.ctl_atoms.specs.Leaves.{Assignment}
-use Rattle.pipe_fields.specs.Layout.{Fields}
+use Rattle.pipe_fields.specs.Layout.{Fields, bit_count}
 use Rattle.pipe_fields.specs.Allowed.{allowed}
 use Rattle.pipe_motion.specs.Flow.{Flow, flow_legal}
 use Rattle.pipe_motion.specs.declared.settings.Settings.{Settings}
 use Rattle.pipe_obligations.specs.StageFlows.{is_jump, no_load_use_in_e, back_matches, back_matches_all, legal, is_stopping}
 use Rattle.dp_signals.specs.PipeNames as signal
+
+-- the net has a variable for each bit of a field and each atom, and there are at most 64 atoms
+pub record HasAtomVariables (net : Gates) (atoms : List Atom) : Type 0 where
+  pub vars : bit_count + length atoms ≤ net.vars
+  pub few : length atoms ≤ 64
 
 -- the register that M loads is a source of E whose value E needs now
 abbrev pub awaits_load : Variant → Bool → Fields → Bool

@@ -9,8 +9,8 @@ ghost use Rattle.y86_base.specs.Words.{set};
 ghost use Rattle.dp_signals.specs.PipeNames as names;
 ghost use Rattle.ctl_rules.specs.ControlGates.{IsControlGate};
 ghost use Rattle.ctl_rules.specs.ColumnDemands as words;
-ghost use Rattle.pipe_fields.specs.Layout.{bit_count, fields_of};
-ghost use Rattle.pipe_motion.specs.Gates.{HasFlow, flow_at};
+ghost use Rattle.pipe_fields.specs.Layout.{fields_of};
+ghost use Rattle.pipe_motion.specs.Gates.{flow_at};
 ghost use Rattle.pipe_motion.specs.Predictions.{predicts};
 ghost use Rattle.pipe_motion.specs.Flow.{path};
 ghost use Rattle.pipe_gates.specs.Columns.{has};
@@ -30,7 +30,7 @@ use pipe_fields::places::{
     E_CND, E_ICODE, E_STAT, F_BACK, F_STOPS, F_TAKEN, M_CND, M_ICODE, M_STAT,
 };
 use pipe_gates::{RowTest, RuleInputs, jump, register_controls_of, row_passes};
-use pipe_motion::{FlowGates, Settings, StageFlowGates, of_youngest, path_gate, stops_gate};
+use pipe_motion::{StageFlowGates, of_youngest, path_gate, stops_gate};
 use y86_base::{Memory, Variant};
 use y86_isa::row;
 
@@ -95,14 +95,18 @@ fn code_has(
 }
 
 /// The fetched instruction stops the machine.
-fn fetched_stops(b: &mut NetBuilder, ctl: &Controls) -> Result<u64, Memory>
-    requires inside { IsInside b.old ctl.now }
-    requires known { IsTrue (has_picks ctl.now names.f_stat) }
-    requires vars { bit_count ≤ b.old.vars }
+fn fetched_stops(b: &mut NetBuilder, inputs: &RuleInputs<'_>) -> Result<u64, Memory>
+    requires has { HasInputs b.old inputs.now }
+    requires known { IsTrue (has_picks inputs.now.controls.now names.f_stat) }
     ensures extends { ExtendsNet b.old b.new }
-    ensures has_truth { IfOk result (λ g. IsControlGate b.new ctl.now g (λ w α cv. stages.stops_by (spec.code_of (cv names.f_stat)) (fields_of w).f.stops)) }
+    ensures has_truth { IfOk result (λ g. IsControlGate b.new inputs.now.controls.now g (λ w α cv. stages.stops_by (spec.code_of (cv names.f_stat)) (fields_of w).f.stops)) }
 {
-    let running = picks_leaf(b, ctl, signal::F_STAT, ExpectedLeaf::This(Leaf::Number(1)))?;
+    let running = picks_leaf(
+        b,
+        inputs.controls,
+        signal::F_STAT,
+        ExpectedLeaf::This(Leaf::Number(1)),
+    )?;
     let clear = spells(b, F_STOPS, 0)?;
     let goes_on = b.and(running, clear)?;
     b.not(goes_on)
@@ -122,64 +126,57 @@ fn fetched_jumps(b: &mut NetBuilder, ctl: &Controls, v: Variant) -> Result<u64, 
 }
 
 /// The way that is predicted for the fetched instruction, as if it were a jump.
-fn fetched_way(b: &mut NetBuilder, ctl: &Controls, s: &Settings) -> Result<u64, Memory>
-    requires inside { IsInside b.old ctl.now }
-    requires known { IsTrue (has_picks ctl.now names.f_ifun) }
-    requires vars { bit_count ≤ b.old.vars }
+fn fetched_way(b: &mut NetBuilder, inputs: &RuleInputs<'_>) -> Result<u64, Memory>
+    requires has { HasInputs b.old inputs.now }
+    requires known { IsTrue (has_picks inputs.now.controls.now names.f_ifun) }
     ensures extends { ExtendsNet b.old b.new }
-    ensures has_truth { IfOk result (λ g. IsControlGate b.new ctl.now g (λ w α cv. predicts s.now (spec.code_of (cv names.f_ifun)) (set (fields_of w).f.back))) }
+    ensures has_truth { IfOk result (λ g. IsControlGate b.new inputs.now.controls.now g (λ w α cv. predicts inputs.now.settings.now (spec.code_of (cv names.f_ifun)) (set (fields_of w).f.back))) }
 {
-    let forward = code_listed(b, ctl, signal::F_IFUN, &s.pt)?;
-    let backward = code_listed(b, ctl, signal::F_IFUN, &s.pb)?;
+    let forward = code_listed(b, inputs.controls, signal::F_IFUN, &inputs.settings.pt)?;
+    let backward = code_listed(b, inputs.controls, signal::F_IFUN, &inputs.settings.pb)?;
     let ahead = spells(b, F_BACK, 0)?;
     choose(b, ahead, forward, backward)
 }
 
 /// The fetched instruction is a mispredicted jump.
-fn fetched_misses(
-    b: &mut NetBuilder,
-    ctl: &Controls,
-    v: Variant,
-    s: &Settings,
-) -> Result<u64, Memory>
-    requires inside { IsInside b.old ctl.now }
-    requires stat_known { IsTrue (has_picks ctl.now names.f_stat) }
-    requires icode_known { IsTrue (has_picks ctl.now names.f_icode) }
-    requires ifun_known { IsTrue (has_picks ctl.now names.f_ifun) }
-    requires vars { bit_count ≤ b.old.vars }
+fn fetched_misses(b: &mut NetBuilder, inputs: &RuleInputs<'_>) -> Result<u64, Memory>
+    requires has { HasInputs b.old inputs.now }
+    requires stat_known { IsTrue (has_picks inputs.now.controls.now names.f_stat) }
+    requires icode_known { IsTrue (has_picks inputs.now.controls.now names.f_icode) }
+    requires ifun_known { IsTrue (has_picks inputs.now.controls.now names.f_ifun) }
     ensures extends { ExtendsNet b.old b.new }
-    ensures has_truth { IfOk result (λ g. IsControlGate b.new ctl.now g (λ w α cv.
-        stages.is_missed v s.now (spec.code_of (cv names.f_stat)) (spec.code_of (cv names.f_icode)) (spec.code_of (cv names.f_ifun)) (fields_of w).f.taken (fields_of w).f.back)) }
+    ensures has_truth { IfOk result (λ g. IsControlGate b.new inputs.now.controls.now g (λ w α cv.
+        stages.is_missed inputs.now.variant inputs.now.settings.now (spec.code_of (cv names.f_stat)) (spec.code_of (cv names.f_icode)) (spec.code_of (cv names.f_ifun)) (fields_of w).f.taken (fields_of w).f.back)) }
 {
-    let here = fetched_jumps(b, ctl, v)?;
-    let way = fetched_way(b, ctl, s)?;
+    let here = fetched_jumps(b, inputs.controls, inputs.variant)?;
+    let way = fetched_way(b, inputs)?;
     let passed = spells(b, F_TAKEN, 0)?;
     let other = b.equal(passed, way)?;
     b.and(here, other)
 }
 
 /// What D loads from a good fetch.
-fn fetched_facts(
-    b: &mut NetBuilder,
-    ctl: &Controls,
-    v: Variant,
-    s: &Settings,
-) -> Result<StageFlowGates, Memory>
-    requires inside { IsInside b.old ctl.now }
-    requires stat_known { IsTrue (has_picks ctl.now names.f_stat) }
-    requires icode_known { IsTrue (has_picks ctl.now names.f_icode) }
-    requires ifun_known { IsTrue (has_picks ctl.now names.f_ifun) }
-    requires vars { bit_count ≤ b.old.vars }
+fn fetched_facts(b: &mut NetBuilder, inputs: &RuleInputs<'_>) -> Result<StageFlowGates, Memory>
+    requires has { HasInputs b.old inputs.now }
+    requires stat_known { IsTrue (has_picks inputs.now.controls.now names.f_stat) }
+    requires icode_known { IsTrue (has_picks inputs.now.controls.now names.f_icode) }
+    requires ifun_known { IsTrue (has_picks inputs.now.controls.now names.f_ifun) }
     ensures extends { ExtendsNet b.old b.new }
-    ensures has_truth { IfOk result (λ r. AreStageFlowGates b.new ctl.now r (λ w α cv.
-        stages.stage_flow_by 1 (stages.stops_by (spec.code_of (cv names.f_stat)) (fields_of w).f.stops) (stages.is_ret v (spec.code_of (cv names.f_icode)))
-        (stages.is_missed v s.now (spec.code_of (cv names.f_stat)) (spec.code_of (cv names.f_icode)) (spec.code_of (cv names.f_ifun)) (fields_of w).f.taken (fields_of w).f.back))) }
+    ensures has_truth { IfOk result (λ r. AreStageFlowGates b.new inputs.now.controls.now r (λ w α cv.
+        stages.stage_flow_by 1 (stages.stops_by (spec.code_of (cv names.f_stat)) (fields_of w).f.stops) (stages.is_ret inputs.now.variant (spec.code_of (cv names.f_icode)))
+        (stages.is_missed inputs.now.variant inputs.now.settings.now (spec.code_of (cv names.f_stat)) (spec.code_of (cv names.f_icode)) (spec.code_of (cv names.f_ifun)) (fields_of w).f.taken (fields_of w).f.back))) }
 {
     let good = b.constant(true)?;
     let wrong = b.constant(false)?;
-    let stops = fetched_stops(b, ctl)?;
-    let ret = code_has(b, ctl, v, signal::F_ICODE, RowTest::Ret)?;
-    let missed = fetched_misses(b, ctl, v, s)?;
+    let stops = fetched_stops(b, inputs)?;
+    let ret = code_has(
+        b,
+        inputs.controls,
+        inputs.variant,
+        signal::F_ICODE,
+        RowTest::Ret,
+    )?;
+    let missed = fetched_misses(b, inputs)?;
     Ok(StageFlowGates {
         good,
         wrong,
@@ -202,19 +199,18 @@ fn goes_to(b: &mut NetBuilder, ctl: &Controls, here: u64, leaf: NameId) -> Resul
 }
 
 /// f_pc is where the jump in E goes.
-pub fn right_after_e(b: &mut NetBuilder, ctl: &Controls, v: Variant) -> Result<u64, Memory>
-    requires inside { IsInside b.old ctl.now }
-    requires known { IsTrue (has_picks ctl.now names.f_pc) }
-    requires vars { bit_count ≤ b.old.vars }
+pub fn right_after_e(b: &mut NetBuilder, inputs: &RuleInputs<'_>) -> Result<u64, Memory>
+    requires has { HasInputs b.old inputs.now }
+    requires known { IsTrue (has_picks inputs.now.controls.now names.f_pc) }
     ensures extends { ExtendsNet b.old b.new }
-    ensures has_truth { IfOk result (λ g. IsControlGate b.new ctl.now g (λ w α cv.
-        stages.is_jump v (fields_of w).e.stat (fields_of w).e.icode && words.picks_leaf cv names.f_pc (if set (fields_of w).e.cnd then Name names.E_valC else Name names.E_valA))) }
+    ensures has_truth { IfOk result (λ g. IsControlGate b.new inputs.now.controls.now g (λ w α cv.
+        stages.is_jump inputs.now.variant (fields_of w).e.stat (fields_of w).e.icode && words.picks_leaf cv names.f_pc (if set (fields_of w).e.cnd then Name names.E_valC else Name names.E_valA))) }
 {
-    let here = jump(b, v, E_STAT, E_ICODE)?;
+    let here = jump(b, inputs.variant, E_STAT, E_ICODE)?;
     let falls = spells(b, E_CND, 0)?;
     let taken = picks_leaf_if(
         b,
-        ctl,
+        inputs.controls,
         signal::F_PC,
         falls,
         ExpectedLeaf::This(Leaf::Name(signal::HELD_E_VAL_A)),
@@ -224,49 +220,40 @@ pub fn right_after_e(b: &mut NetBuilder, ctl: &Controls, v: Variant) -> Result<u
 }
 
 /// f_pc is where the jump in M goes. Its target counts only if the file carries it through the ALU (`tv`).
-fn jump_after_m(b: &mut NetBuilder, ctl: &Controls, v: Variant, tv: bool) -> Result<u64, Memory>
-    requires inside { IsInside b.old ctl.now }
-    requires known { IsTrue (has_picks ctl.now names.f_pc) }
-    requires vars { bit_count ≤ b.old.vars }
+fn jump_after_m(b: &mut NetBuilder, inputs: &RuleInputs<'_>) -> Result<u64, Memory>
+    requires has { HasInputs b.old inputs.now }
+    requires known { IsTrue (has_picks inputs.now.controls.now names.f_pc) }
     ensures extends { ExtendsNet b.old b.new }
-    ensures has_truth { IfOk result (λ g. IsControlGate b.new ctl.now g (λ w α cv.
-        stages.is_jump v (fields_of w).m.stat (fields_of w).m.icode
-        && (if set (fields_of w).m.cnd then tv && words.picks_leaf cv names.f_pc (Name names.M_valE) else words.picks_leaf cv names.f_pc (Name names.M_valA)))) }
+    ensures has_truth { IfOk result (λ g. IsControlGate b.new inputs.now.controls.now g (λ w α cv.
+        stages.is_jump inputs.now.variant (fields_of w).m.stat (fields_of w).m.icode
+        && (if set (fields_of w).m.cnd then inputs.now.settings.now.tv && words.picks_leaf cv names.f_pc (Name names.M_valE) else words.picks_leaf cv names.f_pc (Name names.M_valA)))) }
 {
-    let carried = b.constant(tv)?;
-    let target = goes_to(b, ctl, carried, signal::HELD_M_VAL_E)?;
+    let carried = b.constant(inputs.settings.tv)?;
+    let target = goes_to(b, inputs.controls, carried, signal::HELD_M_VAL_E)?;
     let next = picks_leaf(
         b,
-        ctl,
+        inputs.controls,
         signal::F_PC,
         ExpectedLeaf::This(Leaf::Name(signal::HELD_M_VAL_A)),
     )?;
     let falls = spells(b, M_CND, 0)?;
     let way = choose(b, falls, next, target)?;
-    let here = jump(b, v, M_STAT, M_ICODE)?;
+    let here = jump(b, inputs.variant, M_STAT, M_ICODE)?;
     b.and(here, way)
 }
 
 /// f_pc is where the jump or the ret in M goes.
-fn right_after_m(
-    b: &mut NetBuilder,
-    ctl: &Controls,
-    v: Variant,
-    tv: bool,
-    ret: u64,
-) -> Result<u64, Memory>
-    requires inside { IsInside b.old ctl.now }
-    requires known { IsTrue (has_picks ctl.now names.f_pc) }
-    requires vars { bit_count ≤ b.old.vars }
-    requires ret_in { ret < length b.old.gates }
+fn right_after_m(b: &mut NetBuilder, inputs: &RuleInputs<'_>) -> Result<u64, Memory>
+    requires has { HasInputs b.old inputs.now }
+    requires known { IsTrue (has_picks inputs.now.controls.now names.f_pc) }
     ensures extends { ExtendsNet b.old b.new }
-    ensures has_truth { IfOk result (λ g. IsControlGate b.new ctl.now g (λ w α cv.
-        (stages.is_jump v (fields_of w).m.stat (fields_of w).m.icode
-        && (if set (fields_of w).m.cnd then tv && words.picks_leaf cv names.f_pc (Name names.M_valE) else words.picks_leaf cv names.f_pc (Name names.M_valA)))
-        || (truth b.old ret w && words.picks_leaf cv names.f_pc (Name names.m_valM)))) }
+    ensures has_truth { IfOk result (λ g. IsControlGate b.new inputs.now.controls.now g (λ w α cv.
+        (stages.is_jump inputs.now.variant (fields_of w).m.stat (fields_of w).m.icode
+        && (if set (fields_of w).m.cnd then inputs.now.settings.now.tv && words.picks_leaf cv names.f_pc (Name names.M_valE) else words.picks_leaf cv names.f_pc (Name names.M_valA)))
+        || ((flow_at b.old w inputs.now.flow.now).m.ret && words.picks_leaf cv names.f_pc (Name names.m_valM)))) }
 {
-    let jumped = jump_after_m(b, ctl, v, tv)?;
-    let returned = goes_to(b, ctl, ret, signal::M_VAL_M)?;
+    let jumped = jump_after_m(b, inputs)?;
+    let returned = goes_to(b, inputs.controls, inputs.flow.m.ret, signal::M_VAL_M)?;
     b.or(jumped, returned)
 }
 
@@ -278,30 +265,23 @@ fn right_pc(b: &mut NetBuilder, inputs: &RuleInputs<'_>) -> Result<u64, Memory>
     ensures has_truth { IfOk result (λ g. IsControlGate b.new inputs.now.controls.now g (at_inputs spec.right_pc b.old inputs.now)) }
 {
     let never = b.constant(false)?;
-    let e = right_after_e(b, inputs.controls, inputs.variant)?;
-    let m = right_after_m(
-        b,
-        inputs.controls,
-        inputs.variant,
-        inputs.settings.tv,
-        inputs.flow.m.ret,
-    )?;
+    let e = right_after_e(b, inputs)?;
+    let m = right_after_m(b, inputs)?;
     let w = goes_to(b, inputs.controls, inputs.flow.w.ret, signal::HELD_W_VAL_M)?;
     of_youngest(b, inputs.flow, never, e, m, w)
 }
 
 /// f_pc is the predicted PC, on the path.
-fn on_path(b: &mut NetBuilder, ctl: &Controls, y: &FlowGates) -> Result<u64, Memory>
-    requires inside { IsInside b.old ctl.now }
-    requires known { IsTrue (has_picks ctl.now names.f_pc) }
-    requires flow { HasFlow (length b.old.gates) y.now }
+fn on_path(b: &mut NetBuilder, inputs: &RuleInputs<'_>) -> Result<u64, Memory>
+    requires has { HasInputs b.old inputs.now }
+    requires known { IsTrue (has_picks inputs.now.controls.now names.f_pc) }
     ensures extends { ExtendsNet b.old b.new }
-    ensures has_truth { IfOk result (λ g. IsControlGate b.new ctl.now g (λ w α cv. words.picks_leaf cv names.f_pc (Name names.F_predPC) && path (flow_at b.old w y.now))) }
+    ensures has_truth { IfOk result (λ g. IsControlGate b.new inputs.now.controls.now g (λ w α cv. words.picks_leaf cv names.f_pc (Name names.F_predPC) && path (flow_at b.old w inputs.now.flow.now))) }
 {
-    let path = path_gate(b, y)?;
+    let path = path_gate(b, inputs.flow)?;
     let ahead = picks_leaf(
         b,
-        ctl,
+        inputs.controls,
         signal::F_PC,
         ExpectedLeaf::This(Leaf::Name(signal::HELD_F_PRED_PC)),
     )?;
@@ -315,7 +295,7 @@ fn fetch_good(b: &mut NetBuilder, inputs: &RuleInputs<'_>) -> Result<u64, Memory
     ensures extends { ExtendsNet b.old b.new }
     ensures has_truth { IfOk result (λ g. IsControlGate b.new inputs.now.controls.now g (at_inputs spec.fetch_good b.old inputs.now)) }
 {
-    let ahead = on_path(b, inputs.controls, inputs.flow)?;
+    let ahead = on_path(b, inputs)?;
     let right = right_pc(b, inputs)?;
     let next = b.or(ahead, right)?;
     let stops = stops_gate(b, inputs.flow)?;
@@ -331,6 +311,6 @@ pub fn obligation_25(b: &mut NetBuilder, inputs: &RuleInputs<'_>) -> Result<u64,
 {
     let controls = register_controls_of(inputs.controls);
     let good = fetch_good(b, inputs)?;
-    let facts = fetched_facts(b, inputs.controls, inputs.variant, inputs.settings)?;
+    let facts = fetched_facts(b, inputs)?;
     pipe_motion::obligation_25(b, &controls, good, &facts, inputs.flow, inputs.settings)
 }

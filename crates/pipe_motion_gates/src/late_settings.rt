@@ -1,5 +1,5 @@
 //! The gates that decide lf, je and rm: a setting is 1 if its gate is false at some valuation.
-ghost use Rattle.std.specs.Prelude.{◌≡◌, ◌<◌, ◌≤◌, ◌+◌, ◌&&◌, if◌then◌else◌, IfOk, length, not};
+ghost use Rattle.std.specs.Prelude.{◌≡◌, ◌<◌, ◌&&◌, if◌then◌else◌, IfOk, length, not};
 ghost use Rattle.nets.specs.Nets.{ExtendsNet, truth};
 ghost use Rattle.ctl_atoms.specs.declared.leaf.Leaf.TheVariants.{Name};
 ghost use Rattle.ctl_picks.specs.Picks.{Covers, IsInside};
@@ -8,10 +8,12 @@ ghost use Rattle.dp_signals.specs.PipeNames as names;
 ghost use Rattle.dp_signals.specs.PipeTable.{pipe_rows};
 ghost use Rattle.ctl_rules.specs.ControlGates.{IsControlGate};
 ghost use Rattle.ctl_rules.specs.ColumnDemands as words;
-ghost use Rattle.pipe_fields.specs.Layout.{bit_count, fields_of};
-ghost use Rattle.pipe_motion.specs.Gates.{HasFlow, IsFlow, flow_at};
+ghost use Rattle.pipe_fields.specs.Layout.{fields_of};
+ghost use Rattle.pipe_motion.specs.Gates.{IsFlow, flow_at};
 ghost use Rattle.pipe_obligations.specs.Obligations.{register_controls_of};
 ghost use Rattle.pipe_gates.specs.GateTruths.{IsAtomGate, IsTruthGate};
+ghost use Rattle.pipe_gates.specs.Inputs.{IsRuleReady};
+ghost use Rattle.pipe_motion_gates.specs.Legality.{HasAtomVariables};
 ghost use Rattle.pipe_obligations.specs.FileSettings.{leaves_past_load, may_witness, permissive, witnesses_je, witnesses_lf, witnesses_rm};
 ghost use Rattle.pipe_obligations.specs.StageFlows.{is_jump, flow_of};
 
@@ -24,79 +26,59 @@ use ctl_rules::{ExpectedLeaf, picks_leaf};
 use dp_signals::pipe_row as signal;
 use nets::NetBuilder;
 use pipe_fields::places::E_DST_M;
-use pipe_gates::{flow_gates, register_controls_of};
+use pipe_gates::{RuleInputs, flow_gates, register_controls_of};
 use pipe_motion::{FlowGates, Settings};
 use y86_base::{Memory, Variant};
 
 /// False exactly if a good store leaves D while E loads its source, and `plain` holds.
 #[tactic(auto, using(pipe_gates::proofs::Known::known_d_srcA, pipe_motion::proofs::Kept::flow_stays, ctl_picks::proofs::Inside::inside_more))]
-fn no_load_passed(
-    b: &mut NetBuilder,
-    ctl: &Controls,
-    v: Variant,
-    y: &FlowGates,
-    plain: u64,
-) -> Result<u64, Memory>
-    requires inside { IsInside b.old ctl.now }
-    requires known { Covers pipe_rows ctl.now }
-    requires vars { bit_count ≤ b.old.vars }
-    requires flow { HasFlow (length b.old.gates) y.now }
+fn no_load_passed(b: &mut NetBuilder, inputs: &RuleInputs<'_>, plain: u64) -> Result<u64, Memory>
+    requires ready { IsRuleReady b.old inputs.now }
     requires plain_in { plain < length b.old.gates }
     ensures extends { ExtendsNet b.old b.new }
-    ensures has_truth { IfOk result (λ g. IsControlGate b.new ctl.now g (λ w α cv.
-        not (leaves_past_load v (fields_of w) (flow_at b.old w y.now) (register_controls_of α cv) cv && truth b.old plain w))) }
+    ensures has_truth { IfOk result (λ g. IsControlGate b.new inputs.now.controls.now g (λ w α cv.
+        not (leaves_past_load inputs.now.variant (fields_of w) (flow_at b.old w inputs.now.flow.now) (register_controls_of α cv) cv && truth b.old plain w))) }
 {
-    let controls = register_controls_of(ctl);
-    let equal = picks_leaf(b, ctl, signal::D_SRC_A, ExpectedLeaf::Field(E_DST_M))?;
-    no_late_load(b, v, equal, &controls, y, plain)
+    let controls = register_controls_of(inputs.controls);
+    let equal = picks_leaf(
+        b,
+        inputs.controls,
+        signal::D_SRC_A,
+        ExpectedLeaf::Field(E_DST_M),
+    )?;
+    no_late_load(b, inputs.variant, equal, &controls, inputs.flow, plain)
 }
 
 /// False exactly if E holds a missed jump, and f_pc is where it goes, and `plain` holds.
 #[tactic(auto, using(pipe_gates::proofs::Known::known_f_pc, pipe_motion::proofs::Kept::flow_stays, ctl_picks::proofs::Inside::inside_more))]
-fn no_jump_early(
-    b: &mut NetBuilder,
-    ctl: &Controls,
-    v: Variant,
-    y: &FlowGates,
-    plain: u64,
-) -> Result<u64, Memory>
-    requires inside { IsInside b.old ctl.now }
-    requires known { Covers pipe_rows ctl.now }
-    requires vars { bit_count ≤ b.old.vars }
-    requires flow { HasFlow (length b.old.gates) y.now }
+fn no_jump_early(b: &mut NetBuilder, inputs: &RuleInputs<'_>, plain: u64) -> Result<u64, Memory>
+    requires ready { IsRuleReady b.old inputs.now }
     requires plain_in { plain < length b.old.gates }
     ensures extends { ExtendsNet b.old b.new }
-    ensures has_truth { IfOk result (λ g. IsControlGate b.new ctl.now g (λ w α cv.
-        not (((flow_at b.old w y.now).e.missed && (is_jump v (fields_of w).e.stat (fields_of w).e.icode
+    ensures has_truth { IfOk result (λ g. IsControlGate b.new inputs.now.controls.now g (λ w α cv.
+        not (((flow_at b.old w inputs.now.flow.now).e.missed && (is_jump inputs.now.variant (fields_of w).e.stat (fields_of w).e.icode
         && words.picks_leaf cv names.f_pc (if set (fields_of w).e.cnd then Name names.E_valC else Name names.E_valA))) && truth b.old plain w))) }
 {
-    let right = right_after_e(b, ctl, v)?;
-    no_early_jump(b, y, right, plain)
+    let right = right_after_e(b, inputs)?;
+    no_early_jump(b, inputs.flow, right, plain)
 }
 
 /// False exactly if M holds a ret that doesn't stop, and f_pc is where it goes, and `plain` holds.
 #[tactic(auto, using(pipe_gates::proofs::Known::known_f_pc, pipe_motion::proofs::Kept::flow_stays, ctl_picks::proofs::Inside::inside_more))]
-fn no_ret_early(
-    b: &mut NetBuilder,
-    ctl: &Controls,
-    y: &FlowGates,
-    plain: u64,
-) -> Result<u64, Memory>
-    requires inside { IsInside b.old ctl.now }
-    requires known { Covers pipe_rows ctl.now }
-    requires flow { HasFlow (length b.old.gates) y.now }
+fn no_ret_early(b: &mut NetBuilder, inputs: &RuleInputs<'_>, plain: u64) -> Result<u64, Memory>
+    requires ready { IsRuleReady b.old inputs.now }
     requires plain_in { plain < length b.old.gates }
     ensures extends { ExtendsNet b.old b.new }
-    ensures has_truth { IfOk result (λ g. IsControlGate b.new ctl.now g (λ w α cv.
-        not ((((flow_at b.old w y.now).m.ret && not (flow_at b.old w y.now).m.stops) && words.picks_leaf cv names.f_pc (Name names.m_valM)) && truth b.old plain w))) }
+    ensures has_truth { IfOk result (λ g. IsControlGate b.new inputs.now.controls.now g (λ w α cv.
+        not ((((flow_at b.old w inputs.now.flow.now).m.ret && not (flow_at b.old w inputs.now.flow.now).m.stops) && words.picks_leaf cv names.f_pc (Name names.m_valM)) && truth b.old plain w))) }
 {
     let right = picks_leaf(
         b,
-        ctl,
+        inputs.controls,
         signal::F_PC,
         ExpectedLeaf::This(Leaf::Name(signal::M_VAL_M)),
     )?;
-    no_early_ret(b, y, right, plain)
+    no_early_ret(b, inputs.flow, right, plain)
 }
 
 /// The flow of the stages, and the valuations that may show a setting.
@@ -114,8 +96,7 @@ fn permissive_legal(
     s: &Settings,
     atoms: &[Atom],
 ) -> Result<PermissiveFlow, Memory>
-    requires vars { bit_count + length atoms.now ≤ b.old.vars }
-    requires few { length atoms.now ≤ 64 }
+    requires has { HasAtomVariables b.old atoms.now }
     requires free { permissive s.now ≡ s.now }
     ensures extends { ExtendsNet b.old b.new }
     ensures flow { IfOk result (λ r. IsFlow b.new r.flow (λ w. flow_of v s.now (fields_of w))) }
@@ -146,8 +127,7 @@ pub fn late_gates(
 ) -> Result<Late, Memory>
     requires inside { IsInside b.old ctl.now }
     requires known { Covers pipe_rows ctl.now }
-    requires vars { bit_count + length atoms.now ≤ b.old.vars }
-    requires few { length atoms.now ≤ 64 }
+    requires has { HasAtomVariables b.old atoms.now }
     requires free { permissive s.now ≡ s.now }
     ensures extends { ExtendsNet b.old b.new }
     ensures late { IfOk result (λ r. IsTruthGate b.new ctl.now atoms.now r.lf (λ c α cv. not (witnesses_lf v s.now atoms.now c α cv))) }
@@ -155,8 +135,14 @@ pub fn late_gates(
     ensures ret { IfOk result (λ r. IsTruthGate b.new ctl.now atoms.now r.rm (λ c α cv. not (witnesses_rm v s.now atoms.now c α cv))) }
 {
     let p = permissive_legal(b, v, s, atoms)?;
-    let lf = no_load_passed(b, ctl, v, &p.flow, p.plain)?;
-    let je = no_jump_early(b, ctl, v, &p.flow, p.plain)?;
-    let rm = no_ret_early(b, ctl, &p.flow, p.plain)?;
+    let inputs = RuleInputs {
+        variant: v,
+        settings: s,
+        controls: ctl,
+        flow: &p.flow,
+    };
+    let lf = no_load_passed(b, &inputs, p.plain)?;
+    let je = no_jump_early(b, &inputs, p.plain)?;
+    let rm = no_ret_early(b, &inputs, p.plain)?;
     Ok(Late { lf, je, rm })
 }

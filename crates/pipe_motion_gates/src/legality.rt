@@ -1,5 +1,5 @@
 //! Gates that say which valuations are legal.
-#![tactic(auto, unfolding(pipe_fields::specs::Layout::fields_of), using(nets::proofs::Truths::begins_more, nets::proofs::Truths::begins_self))]
+#![tactic(auto, unfolding(pipe_fields::specs::Layout::fields_of), using(nets::proofs::Truths::begins_more, nets::proofs::Truths::begins_self, crate::proofs::Inputs::variables_stay))]
 
 ghost use Rattle.std.specs.Prelude.{◌≡◌, ◌<◌, ◌≤◌, ◌+◌, ◌==◌, ◌&&◌, not, length, IfOk};
 ghost use Rattle.nets.specs.Nets.{ExtendsNet, IsGate, truth};
@@ -77,8 +77,7 @@ fn back_matches(
     here: u64,
     back: BitRange,
 ) -> Result<u64, Memory>
-    requires vars { bit_count + length atoms.now ≤ b.old.vars }
-    requires few { length atoms.now ≤ 64 }
+    requires has { built.HasAtomVariables b.old atoms.now }
     requires here { here < length b.old.gates }
     requires place { back.first + back.bits ≤ b.old.vars }
     ensures extends { ExtendsNet b.old b.new }
@@ -114,8 +113,7 @@ pub fn fetched_jump(b: &mut NetBuilder, v: Variant) -> Result<u64, Memory>
 
 /// For the fetched jump, the atom is its back bit.
 pub fn back_matches_in_f(b: &mut NetBuilder, v: Variant, atoms: &[Atom]) -> Result<u64, Memory>
-    requires vars { bit_count + length atoms.now ≤ b.old.vars }
-    requires few { length atoms.now ≤ 64 }
+    requires has { built.HasAtomVariables b.old atoms.now }
     ensures extends { ExtendsNet b.old b.new }
     ensures has_truth { IfOk result (λ g. IsAtomGate b.new atoms.now g (λ w α. spec.back_matches_in_f v atoms.now (fields_of w) α)) }
 {
@@ -166,8 +164,7 @@ fn stage_tells_back(
     good: u64,
     at: StageJump,
 ) -> Result<u64, Memory>
-    requires vars { bit_count + length atoms.now ≤ b.old.vars }
-    requires few { length atoms.now ≤ 64 }
+    requires has { built.HasAtomVariables b.old atoms.now }
     requires good { good < length b.old.gates }
     requires stat_place { at.stat.first + at.stat.bits ≤ b.old.vars }
     requires icode_place { at.icode.first + at.icode.bits ≤ b.old.vars }
@@ -190,8 +187,7 @@ fn stages_tell_back(
     atoms: &[Atom],
     y: &FlowGates,
 ) -> Result<u64, Memory>
-    requires vars { bit_count + length atoms.now ≤ b.old.vars }
-    requires few { length atoms.now ≤ 64 }
+    requires has { built.HasAtomVariables b.old atoms.now }
     requires flow { HasFlow (length b.old.gates) y.now }
     ensures extends { ExtendsNet b.old b.new }
     ensures has_truth { IfOk result (λ g. IsAtomGate b.new atoms.now g (λ w α. built.back_matches_in_stages v tv atoms.now (fields_of w) (flow_at b.old w y.now) α)) }
@@ -218,7 +214,7 @@ pub fn stopping_gate(b: &mut NetBuilder) -> Result<u64, Memory>
 }
 
 /// The valuation is legal in a flow, at settings.
-#[tactic(auto, unfolding(crate::specs::Legality::legal_with), using(nets::proofs::Truths::begins_more, nets::proofs::Truths::begins_self))]
+#[tactic(auto, unfolding(crate::specs::Legality::legal_with), using(nets::proofs::Truths::begins_more, nets::proofs::Truths::begins_self, crate::proofs::Inputs::variables_stay))]
 pub fn legal_gate(
     b: &mut NetBuilder,
     v: Variant,
@@ -226,8 +222,7 @@ pub fn legal_gate(
     atoms: &[Atom],
     y: &FlowGates,
 ) -> Result<u64, Memory>
-    requires vars { bit_count + length atoms.now ≤ b.old.vars }
-    requires few { length atoms.now ≤ 64 }
+    requires has { built.HasAtomVariables b.old atoms.now }
     requires flow { HasFlow (length b.old.gates) y.now }
     ensures extends { ExtendsNet b.old b.new }
     ensures has_truth { IfOk result (λ g. IsAtomGate b.new atoms.now g (λ w α. built.legal_with v s.now atoms.now (fields_of w) (flow_at b.old w y.now) α)) }

@@ -1,6 +1,6 @@
 //! Gates that say which valuations are legal, at which of these an obligation is demanded, what obligations 23 to 27
 //! demand, and what the settings lf, je and rm are.
-#![tactic(auto, using(nets::proofs::Truths::begins_more, nets::proofs::Truths::begins_self))]
+#![tactic(auto, using(nets::proofs::Truths::begins_more, nets::proofs::Truths::begins_self, crate::proofs::Inputs::variables_stay))]
 
 mod fetch;
 mod late;

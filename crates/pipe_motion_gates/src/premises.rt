@@ -1,10 +1,10 @@
 //! Gates of the premises: the valuations at which each obligation is demanded.
-ghost use Rattle.std.specs.Prelude.{◌≡◌, ◌≤◌, ◌+◌, ◌==◌, ◌||◌, ◌&&◌, not, length, IfOk};
+ghost use Rattle.std.specs.Prelude.{◌≡◌, ◌≤◌, ◌==◌, ◌&&◌, IfOk};
 ghost use Rattle.nets.specs.Nets.{ExtendsNet, IsGate, agree};
 ghost use Rattle.y86_base.specs.Words.{set};
 ghost use Rattle.pipe_fields.specs.Layout.{bit_count, fields_of};
 ghost use Rattle.pipe_fields.specs.Allowed.{allowed};
-ghost use Rattle.pipe_motion.specs.Gates.{flow_at, HasFlow, IsFlow};
+ghost use Rattle.pipe_motion.specs.Gates.{IsFlow};
 ghost use Rattle.pipe_gates.specs.GateTruths.{IsAtomGate};
 ghost use Rattle.pipe_motion_gates.specs.Legality as built;
 ghost use Rattle.pipe_obligations.specs.StageFlows as spec;
@@ -18,32 +18,6 @@ use pipe_fields::places::{F_BACK, F_IFUN};
 use pipe_motion::{FlowGates, Settings};
 use y86_base::{Memory, Variant};
 
-/// The valuation is allowed and legal, in a cycle that doesn't stop, or (`always`) in any.
-pub fn demanded_gate(
-    b: &mut NetBuilder,
-    v: Variant,
-    s: &Settings,
-    atoms: &[Atom],
-    y: &FlowGates,
-    always: bool,
-) -> Result<u64, Memory>
-    requires vars { bit_count + length atoms.now ≤ b.old.vars }
-    requires few { length atoms.now ≤ 64 }
-    requires flow { HasFlow (length b.old.gates) y.now }
-    ensures extends { ExtendsNet b.old b.new }
-    ensures has_truth { IfOk result (λ g. IsAtomGate b.new atoms.now g (λ w α. allowed v (fields_of w)
-        && (built.legal_with v s.now atoms.now (fields_of w) (flow_at b.old w y.now) α && (always || not (spec.is_stopping (fields_of w)))))) }
-{
-    let legal = legal_gate(b, v, s, atoms, y)?;
-    let fits = pipe_fields::allowed(b, v)?;
-    let both = b.and(fits, legal)?;
-    if always {
-        return Ok(both);
-    }
-    let stopping = stopping_gate(b)?;
-    without(b, both, stopping)
-}
-
 /// An allowed and legal valuation at settings, in a cycle that doesn't stop, or (`always`) in any.
 pub fn premise_gate(
     b: &mut NetBuilder,
@@ -53,13 +27,19 @@ pub fn premise_gate(
     y: &FlowGates,
     always: bool,
 ) -> Result<u64, Memory>
-    requires vars { bit_count + length atoms.now ≤ b.old.vars }
-    requires few { length atoms.now ≤ 64 }
+    requires has { built.HasAtomVariables b.old atoms.now }
     requires flow { IsFlow b.old y.now (λ w. spec.flow_of v s.now (fields_of w)) }
     ensures extends { ExtendsNet b.old b.new }
     ensures has_truth { IfOk result (λ g. IsAtomGate b.new atoms.now g (λ w α. built.premise_when v s.now atoms.now always (fields_of w) α)) }
 {
-    demanded_gate(b, v, s, atoms, y, always)
+    let legal = legal_gate(b, v, s, atoms, y)?;
+    let fits = pipe_fields::allowed(b, v)?;
+    let both = b.and(fits, legal)?;
+    if always {
+        return Ok(both);
+    }
+    let stopping = stopping_gate(b)?;
+    without(b, both, stopping)
 }
 
 /// A jump of this ifun is fetched that goes back, or (without `back`) doesn't.
@@ -90,8 +70,7 @@ pub fn prediction_premise(
     ifun: u64,
     back: bool,
 ) -> Result<u64, Memory>
-    requires vars { bit_count + length atoms.now ≤ b.old.vars }
-    requires few { length atoms.now ≤ 64 }
+    requires has { built.HasAtomVariables b.old atoms.now }
     requires fits { IsGate b.old fits (λ w. allowed v (fields_of w)) }
     ensures extends { ExtendsNet b.old b.new }
     ensures has_truth { IfOk result (λ g. IsAtomGate b.new atoms.now g (λ w α. allowed v (fields_of w) && (spec.fetched_jump v (fields_of w)

@@ -2,7 +2,7 @@
 //! instruction".
 #![tactic(auto, using(nets::proofs::Truths::begins_more, ctl_picks::proofs::Inside::inside_more, crate::proofs::Joined::ready_more), unfolding(pipe_fields::specs::Layout::fields_of))]
 
-ghost use Rattle.std.specs.Prelude.{◌≡◌, ◌<◌, ◌≤◌, ◌+◌, ◌==◌, ◌&&◌, ◌||◌, not, if◌then◌else◌, length, IfOk, IsTrue};
+ghost use Rattle.std.specs.Prelude.{◌<◌, ◌≤◌, ◌==◌, ◌&&◌, ◌||◌, not, length, IfOk, IsTrue};
 ghost use Rattle.nets.specs.Nets.{ExtendsNet, IsGate, truth};
 ghost use Rattle.ctl_atoms.specs.declared.leaf.Leaf.TheVariants.{Name};
 ghost use Rattle.ctl_picks.specs.Picks.{IsInside, has_gate, has_picks};
@@ -11,10 +11,12 @@ ghost use Rattle.y86_base.specs.Words.{set};
 ghost use Rattle.pipe_stage_gates.specs.Signals.{IsReady, demand_of_row};
 ghost use Rattle.pipe_obligations.specs.StageFlows.{is_jump};
 ghost use Rattle.pipe_fields.specs.Layout.{bit_count, fields_of};
+ghost use Rattle.pipe_gates.specs.Inputs.{HasInputs, at_inputs};
+ghost use Rattle.pipe_obligations.specs.Obligations as spec;
 ghost use Rattle.ctl_rules.specs.ControlGates.{IsControlGate};
 ghost use Rattle.ctl_rules.specs.ColumnDemands as words;
-ghost use Rattle.y86_isa.specs.Blocks.{alu_function, destination_e};
-ghost use Rattle.y86_isa.specs.RowTests.{select_a_is_val_a, select_a_is_val_p, has_operand_a, stores_val_a};
+ghost use Rattle.y86_isa.specs.Blocks.{destination_e};
+ghost use Rattle.y86_isa.specs.RowTests.{select_a_is_val_a, select_a_is_val_p, stores_val_a};
 ghost use Rattle.y86_isa.specs.Table.{row};
 
 use crate::row_rules::RowRule;
@@ -25,7 +27,7 @@ use hcl_types::NameId;
 use net_fields::{same, spells};
 use nets::{NetBuilder, implies};
 use pipe_fields::places::{E_CND, E_DST_E, E_ICODE, E_SRC_A, E_STAT, M_DST_M};
-use pipe_gates::{RowTest, row_has};
+use pipe_gates::{RowTest, RuleInputs, row_has};
 use y86_base::{Memory, Variant};
 
 /// E holds a good instruction with status 1 (AOK).
@@ -42,38 +44,28 @@ fn works(b: &mut NetBuilder, good: u64) -> Result<u64, Memory>
 /// The demand of a row on E, for a good instruction with status 1 (AOK).
 pub fn demand_in_e(
     b: &mut NetBuilder,
-    ctl: &Controls,
-    v: Variant,
-    good: u64,
+    inputs: &RuleInputs<'_>,
     rule: RowRule,
 ) -> Result<u64, Memory>
-    requires inside { IsInside b.old ctl.now }
-    requires ready { IsReady b.old.vars ctl.now }
-    requires good { good < length b.old.gates }
+    requires has { HasInputs b.old inputs.now }
+    requires ready { IsReady b.old.vars inputs.now.controls.now }
     ensures extends { ExtendsNet b.old b.new }
-    ensures has_truth { IfOk result (λ g. IsControlGate b.new ctl.now g (λ w α cv.
-        not (truth b.old good w && (fields_of w).e.stat == 1) || demand_of_row rule (row v (fields_of w).e.icode) (fields_of w) cv)) }
+    ensures has_truth { IfOk result (λ g. IsControlGate b.new inputs.now.controls.now g (λ w α cv.
+        not (at_inputs spec.works_in_e b.old inputs.now w α cv) || demand_of_row rule (row inputs.now.variant (fields_of w).e.icode) (fields_of w) cv)) }
 {
-    let works = works(b, good)?;
-    let asked = by_icode(b, ctl, v, E_ICODE, &rule)?;
+    let works = works(b, inputs.flow.e.good)?;
+    let asked = by_icode(b, inputs.controls, inputs.variant, E_ICODE, &rule)?;
     implies(b, works, asked)
 }
 
 /// Obligation 14: the function of the ALU, if the ALU is used.
-pub fn obligation_14(
-    b: &mut NetBuilder,
-    ctl: &Controls,
-    v: Variant,
-    good: u64,
-) -> Result<u64, Memory>
-    requires inside { IsInside b.old ctl.now }
-    requires ready { IsReady b.old.vars ctl.now }
-    requires good { good < length b.old.gates }
+pub fn obligation_14(b: &mut NetBuilder, inputs: &RuleInputs<'_>) -> Result<u64, Memory>
+    requires has { HasInputs b.old inputs.now }
+    requires ready { IsReady b.old.vars inputs.now.controls.now }
     ensures extends { ExtendsNet b.old b.new }
-    ensures has_truth { IfOk result (λ g. IsControlGate b.new ctl.now g (λ w α cv.
-        not ((truth b.old good w && (fields_of w).e.stat == 1) && has_operand_a (row v (fields_of w).e.icode).alu_a) || words.is_number cv names.alufun (alu_function (row v (fields_of w).e.icode).selects (fields_of w).e.ifun))) }
+    ensures has_truth { IfOk result (λ g. IsControlGate b.new inputs.now.controls.now g (at_inputs spec.o14 b.old inputs.now)) }
 {
-    demand_in_e(b, ctl, v, good, RowRule::Function)
+    demand_in_e(b, inputs, RowRule::Function)
 }
 
 /// The signal is true exactly where both gates are.
@@ -97,22 +89,15 @@ pub fn truth_where(
 }
 
 /// Obligation 15: the flags are set exactly by a good instruction with status 1 (AOK) that sets flags.
-pub fn obligation_15(
-    b: &mut NetBuilder,
-    ctl: &Controls,
-    v: Variant,
-    good: u64,
-) -> Result<u64, Memory>
-    requires inside { IsInside b.old ctl.now }
-    requires ready { IsReady b.old.vars ctl.now }
-    requires good { good < length b.old.gates }
+pub fn obligation_15(b: &mut NetBuilder, inputs: &RuleInputs<'_>) -> Result<u64, Memory>
+    requires has { HasInputs b.old inputs.now }
+    requires ready { IsReady b.old.vars inputs.now.controls.now }
     ensures extends { ExtendsNet b.old b.new }
-    ensures has_truth { IfOk result (λ g. IsControlGate b.new ctl.now g (λ w α cv.
-        words.is_truth α cv names.set_cc ((truth b.old good w && (fields_of w).e.stat == 1) && (row v (fields_of w).e.icode).sets_flags))) }
+    ensures has_truth { IfOk result (λ g. IsControlGate b.new inputs.now.controls.now g (at_inputs spec.o15 b.old inputs.now)) }
 {
-    let works = works(b, good)?;
-    let sets = row_has(b, v, E_ICODE, RowTest::SetsFlags)?;
-    truth_where(b, ctl, signal::SET_CC, works, sets)
+    let works = works(b, inputs.flow.e.good)?;
+    let sets = row_has(b, inputs.variant, E_ICODE, RowTest::SetsFlags)?;
+    truth_where(b, inputs.controls, signal::SET_CC, works, sets)
 }
 
 /// The good instruction in E passes valA, or valP in its place, on to M.
@@ -156,33 +141,22 @@ fn word_comes_late(b: &mut NetBuilder, lf: bool, v: Variant, loads: u64) -> Resu
 }
 
 /// Obligation 16: e_valA is the value that the instruction passes on to M.
-pub fn obligation_16(
-    b: &mut NetBuilder,
-    ctl: &Controls,
-    lf: bool,
-    v: Variant,
-    good: u64,
-    loads: u64,
-) -> Result<u64, Memory>
-    requires inside { IsInside b.old ctl.now }
-    requires ready { IsReady b.old.vars ctl.now }
-    requires good { good < length b.old.gates }
-    requires loads { loads < length b.old.gates }
+pub fn obligation_16(b: &mut NetBuilder, inputs: &RuleInputs<'_>) -> Result<u64, Memory>
+    requires has { HasInputs b.old inputs.now }
+    requires ready { IsReady b.old.vars inputs.now.controls.now }
     ensures extends { ExtendsNet b.old b.new }
-    ensures has_truth { IfOk result (λ g. IsControlGate b.new ctl.now g (λ w α cv.
-        not (truth b.old good w && (select_a_is_val_a (row v (fields_of w).e.icode) || select_a_is_val_p (row v (fields_of w).e.icode)))
-        || words.picks_leaf cv names.e_valA (if lf && (stores_val_a (row v (fields_of w).e.icode).memory && (truth b.old loads w && (fields_of w).m.dst_m == (fields_of w).e.src_a)) then Name names.m_valM else Name names.E_valA))) }
+    ensures has_truth { IfOk result (λ g. IsControlGate b.new inputs.now.controls.now g (at_inputs spec.o16 b.old inputs.now)) }
 {
-    let late = word_comes_late(b, lf, v, loads)?;
+    let late = word_comes_late(b, inputs.settings.lf, inputs.variant, inputs.flow.m.good)?;
     let taken = picks_leaf_if(
         b,
-        ctl,
+        inputs.controls,
         signal::E_VAL_A,
         late,
         ExpectedLeaf::This(Leaf::Name(signal::M_VAL_M)),
         ExpectedLeaf::This(Leaf::Name(signal::HELD_E_VAL_A)),
     )?;
-    let carried = alu_passes_target(b, v, good)?;
+    let carried = alu_passes_target(b, inputs.variant, inputs.flow.e.good)?;
     implies(b, carried, taken)
 }
 
@@ -223,21 +197,14 @@ pub fn late_destination_is(
 }
 
 /// Obligation 17: unless E holds a wrong instruction, e_dstE is E's destination after the condition.
-pub fn obligation_17(
-    b: &mut NetBuilder,
-    ctl: &Controls,
-    v: Variant,
-    wrong: u64,
-) -> Result<u64, Memory>
-    requires inside { IsInside b.old ctl.now }
-    requires ready { IsReady b.old.vars ctl.now }
-    requires wrong { wrong < length b.old.gates }
+pub fn obligation_17(b: &mut NetBuilder, inputs: &RuleInputs<'_>) -> Result<u64, Memory>
+    requires has { HasInputs b.old inputs.now }
+    requires ready { IsReady b.old.vars inputs.now.controls.now }
     ensures extends { ExtendsNet b.old b.new }
-    ensures has_truth { IfOk result (λ g. IsControlGate b.new ctl.now g (λ w α cv.
-        truth b.old wrong w || words.is_number cv names.e_dstE (destination_e (row v (fields_of w).e.icode).conditional (set (fields_of w).e.cnd) (fields_of w).e.dst_e))) }
+    ensures has_truth { IfOk result (λ g. IsControlGate b.new inputs.now.controls.now g (at_inputs spec.o17 b.old inputs.now)) }
 {
-    let told = late_destination_is(b, ctl, v, signal::E_DST_E)?;
-    b.or(wrong, told)
+    let told = late_destination_is(b, inputs.controls, inputs.variant, signal::E_DST_E)?;
+    b.or(inputs.flow.e.wrong, told)
 }
 
 /// E holds a good jump with status 1 (AOK).

@@ -62,19 +62,19 @@ fn from_stage(
 }
 
 /// The word takes the value of a source that no instruction in E writes: from M, from W, or from the register file.
-fn from_m_on(b: &mut NetBuilder, ctl: &Controls, operand: Operand) -> Result<u64, Memory>
-    requires inside { IsInside b.old ctl.now }
-    requires word_known { IsTrue (has_picks ctl.now operand.word) }
-    requires source_known { IsTrue (has_picks ctl.now operand.source) }
-    requires vars { bit_count ≤ b.old.vars }
+fn from_m_on(b: &mut NetBuilder, inputs: &RuleInputs<'_>, operand: Operand) -> Result<u64, Memory>
+    requires has { HasInputs b.old inputs.now }
+    requires word_known { IsTrue (has_picks inputs.now.controls.now operand.word) }
+    requires source_known { IsTrue (has_picks inputs.now.controls.now operand.source) }
     ensures extends { ExtendsNet b.old b.new }
-    ensures has_truth { IfOk result (λ g. IsControlGate b.new ctl.now g (λ w α cv.
+    ensures has_truth { IfOk result (λ g. IsControlGate b.new inputs.now.controls.now g (λ w α cv.
         if words.is_number cv operand.source (fields_of w).m.dst_m then words.picks_leaf cv operand.word (Name names.m_valM)
         else (if words.is_number cv operand.source (fields_of w).m.dst_e then words.picks_leaf cv operand.word (Name names.M_valE)
         else (if words.is_number cv operand.source (fields_of w).w.dst_m then words.picks_leaf cv operand.word (Name names.W_valM)
         else (if words.is_number cv operand.source (fields_of w).w.dst_e then words.picks_leaf cv operand.word (Name names.W_valE)
         else words.picks_leaf cv operand.word (Name operand.rest)))))) }
 {
+    let ctl = inputs.controls;
     let file = picks_leaf(
         b,
         ctl,
@@ -96,7 +96,7 @@ fn takes_value(b: &mut NetBuilder, inputs: &RuleInputs<'_>, operand: Operand) ->
     ensures has_truth { IfOk result (λ g. IsControlGate b.new inputs.now.controls.now g (λ w α cv.
         words.picks_leaf cv operand.word (at_inputs spec.right_value b.old inputs.now w α cv operand.source operand.rest))) }
 {
-    let older = from_m_on(b, inputs.controls, operand)?;
+    let older = from_m_on(b, inputs, operand)?;
     let writes = late_destination_is(b, inputs.controls, inputs.variant, operand.source)?;
     let in_e = b.and(inputs.flow.e.good, writes)?;
     let taken = picks_leaf(
@@ -155,18 +155,17 @@ fn picks_right_value(
 }
 
 /// If the instruction in D carries valP in the place of valA, d_valA is D_valP.
-fn takes_next_pc(b: &mut NetBuilder, ctl: &Controls, v: Variant) -> Result<u64, Memory>
-    requires inside { IsInside b.old ctl.now }
-    requires known { IsTrue (has_picks ctl.now names.d_valA) }
-    requires vars { bit_count ≤ b.old.vars }
+fn takes_next_pc(b: &mut NetBuilder, inputs: &RuleInputs<'_>) -> Result<u64, Memory>
+    requires has { HasInputs b.old inputs.now }
+    requires known { IsTrue (has_picks inputs.now.controls.now names.d_valA) }
     ensures extends { ExtendsNet b.old b.new }
-    ensures has_truth { IfOk result (λ g. IsControlGate b.new ctl.now g (λ w α cv.
-        not (select_a_is_val_p (row v (fields_of w).d.icode)) || words.picks_leaf cv names.d_valA (Name names.D_valP))) }
+    ensures has_truth { IfOk result (λ g. IsControlGate b.new inputs.now.controls.now g (λ w α cv.
+        not (select_a_is_val_p (row inputs.now.variant (fields_of w).d.icode)) || words.picks_leaf cv names.d_valA (Name names.D_valP))) }
 {
-    let carries = row_has(b, v, D_ICODE, RowTest::CarriesP)?;
+    let carries = row_has(b, inputs.variant, D_ICODE, RowTest::CarriesP)?;
     let taken = picks_leaf(
         b,
-        ctl,
+        inputs.controls,
         signal::D_VAL_A,
         ExpectedLeaf::This(Leaf::Name(signal::HELD_D_VAL_P)),
     )?;
@@ -194,7 +193,7 @@ pub fn obligation_10(b: &mut NetBuilder, inputs: &RuleInputs<'_>) -> Result<u64,
     ensures has_truth { IfOk result (λ g. IsControlGate b.new inputs.now.controls.now g (at_inputs spec.o10 b.old inputs.now)) }
 {
     let stays = none_leaves(b, inputs.controls, inputs.flow)?;
-    let next_pc = takes_next_pc(b, inputs.controls, inputs.variant)?;
+    let next_pc = takes_next_pc(b, inputs)?;
     let late = stores_late(b, inputs.variant, inputs.settings.lf)?;
     let operand = Operand {
         word: signal::D_VAL_A,

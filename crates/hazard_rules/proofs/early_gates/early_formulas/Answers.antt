@@ -23,7 +23,7 @@ returns-clause-target c = λ s. record {
 pub carries_gate-requires-clause-ready : goal.carries_gate-requires-clause-ready
 carries_gate-requires-clause-ready c =
     let same = c.predictions-2.ensures.extends.vars ∙ (c.predictions.ensures.extends.vars ∙ c.allowed.ensures.extends.vars) in
-    let fields : bit_count ≤ c.predictions-2.new.b.vars = let e = c.requires.vars in omega (arith, same, e) in
+    let fields : bit_count ≤ c.predictions-2.new.b.vars = let e = c.requires.has.vars in omega (arith, same, e) in
     ready_by fields c.requires.covers
 
 pub predictions-requires-2-clause-fits : goal.predictions-requires-2-clause-fits

@@ -1,4 +1,4 @@
-use Rattle.std.proofs.Common.{◌+◌, ◌∙◌, ap, if◌then◌else◌, refl, arith}
+use Rattle.std.proofs.Common.{◌+◌, ◌∙◌, ap, if◌then◌else◌, refl}
 use Rattle.nets.specs.Nets.{truth}
 use Rattle.nets.proofs.Truths.{begins_more}
 use Rattle.ctl_picks.proofs.Inside.{inside_more}
@@ -11,20 +11,14 @@ use Rattle.ctl_rules.proofs.Lists.{counted}
 use Rattle.pipe_obligations.specs.Obligations.{register_controls_of}
 use Rattle.pipe_obligations.specs.Rules.{demand, demand_at, is_demanded, is_always_demanded}
 use Rattle.pipe_motion_gates.specs.Legality.{premise_when}
+use Rattle.pipe_motion_gates.proofs.Inputs.{inputs_ready}
 use Rattle.hazard_rules.proofs.Listed.{premise_by, rule_by, rules_more, rules_pushed}
 use Rattle.hazard_rules.proofs.rules.rules_told.Goals as goal
 
 pub demand_gate-requires-clause-ready : goal.demand_gate-requires-clause-ready
 demand_gate-requires-clause-ready c =
     let old = c.loop-i.invariant in
-    record {
-      has = record {
-        inside = inside_more old.begins c.requires.inside;
-        vars = let same = old.begins.vars in let fits = c.requires.vars in omega (arith, same, fits);
-        flow = old.flow.within;
-      };
-      known = c.requires.covers;
-    }
+    inputs_ready old.begins c.requires.inside c.requires.covers c.requires.has old.flow.within
 
 pub loop-i-preserved : goal.loop-i-preserved
 unfolding demand_at is_demanded premise_when

@@ -5,7 +5,7 @@ use Rattle.pipe_motion_gates.proofs.fetch.fetched_facts.Goals as goal
 
 pub returns-clause-has_truth : goal.returns-clause-has_truth
 returns-clause-has_truth c =
-    let i0 = c.requires.inside in
+    let i0 = c.requires.has.inside in
     let k1 = c.constant.ensures.extends in
     let k2 = c.constant-2.ensures.extends in
     let i2 = inside_more (begins_more k1 k2) i0 in

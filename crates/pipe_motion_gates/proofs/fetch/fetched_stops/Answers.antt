@@ -11,7 +11,7 @@ use Rattle.pipe_motion_gates.proofs.fetch.fetched_stops.Goals as goal
 pub returns-clause-has_truth : goal.returns-clause-has_truth
 unfolding fields_of
 returns-clause-has_truth c =
-    let i1 = inside_more c.picks_leaf.ensures.extends c.requires.inside in
+    let i1 = inside_more c.picks_leaf.ensures.extends c.requires.has.inside in
     let k2 = c.spells.ensures.extends in
     let i2 = inside_more k2 i1 in
     let both = asked_two (λ w x y. x && y) c.and.ensures.extends i2 (asked_more k2 i1 c.in_ok-running.ensures.has_truth) (asked_gate c.in_ok-clear.ensures.has_truth) c.in_ok-goes_on.ensures.has_truth in

@@ -14,7 +14,7 @@ pub returns-clause-has_truth : goal.returns-clause-has_truth
 unfolding fields_of
 returns-clause-has_truth c =
     let k1 = c.jump.ensures.extends in
-    let i1 = inside_more k1 c.requires.inside in
+    let i1 = inside_more k1 c.requires.has.inside in
     let k2 = c.spells.ensures.extends in
     let i2 = inside_more k2 i1 in
     let k3 = c.picks_leaf_if.ensures.extends in

@@ -7,17 +7,25 @@ use Rattle.ctl_rules.proofs.Kept.{asked_more}
 use Rattle.pipe_gates.proofs.Choices.{over_more}
 use Rattle.pipe_obligations.specs.Obligations.{register_controls_of}
 use Rattle.pipe_obligations.specs.FileSettings.{witnesses_je, witnesses_lf, witnesses_rm}
+use Rattle.pipe_motion_gates.proofs.Inputs.{inputs_ready}
 use Rattle.pipe_motion_gates.proofs.Shows.{jump_by, past_by, ret_by}
 use Rattle.pipe_motion_gates.proofs.late_settings.late_gates.Goals as goal
 
-pub no_jump_early-requires-clause-flow : goal.no_jump_early-requires-clause-flow
-no_jump_early-requires-clause-flow c = (is_flow_kept c.no_load_passed.ensures.extends c.in_ok-p.ensures.flow).within
+pub no_load_passed-requires-clause-ready : goal.no_load_passed-requires-clause-ready
+no_load_passed-requires-clause-ready c = inputs_ready c.permissive_legal.ensures.extends c.requires.inside c.requires.known c.requires.has c.in_ok-p.ensures.flow.within
+
+pub no_jump_early-requires-clause-ready : goal.no_jump_early-requires-clause-ready
+no_jump_early-requires-clause-ready c =
+    let k2 = c.no_load_passed.ensures.extends in
+    inputs_ready (begins_more c.permissive_legal.ensures.extends k2) c.requires.inside c.requires.known c.requires.has (is_flow_kept k2 c.in_ok-p.ensures.flow).within
 
 pub no_jump_early-requires-clause-plain_in : goal.no_jump_early-requires-clause-plain_in
 no_jump_early-requires-clause-plain_in c = (over_more c.no_load_passed.ensures.extends c.in_ok-p.ensures.plain).within
 
-pub no_ret_early-requires-clause-flow : goal.no_ret_early-requires-clause-flow
-no_ret_early-requires-clause-flow c = (is_flow_kept (begins_more c.no_load_passed.ensures.extends c.no_jump_early.ensures.extends) c.in_ok-p.ensures.flow).within
+pub no_ret_early-requires-clause-ready : goal.no_ret_early-requires-clause-ready
+no_ret_early-requires-clause-ready c =
+    let k23 = begins_more c.no_load_passed.ensures.extends c.no_jump_early.ensures.extends in
+    inputs_ready (begins_more c.permissive_legal.ensures.extends k23) c.requires.inside c.requires.known c.requires.has (is_flow_kept k23 c.in_ok-p.ensures.flow).within
 
 pub no_ret_early-requires-clause-plain_in : goal.no_ret_early-requires-clause-plain_in
 no_ret_early-requires-clause-plain_in c = (over_more (begins_more c.no_load_passed.ensures.extends c.no_jump_early.ensures.extends) c.in_ok-p.ensures.plain).within

@@ -9,10 +9,10 @@ use Rattle.pipe_motion_gates.proofs.late_settings.no_ret_early.Goals as goal
 pub returns-clause-has_truth : goal.returns-clause-has_truth
 returns-clause-has_truth c =
     let k1 = c.picks_leaf.ensures.extends in
-    let i1 = inside_more k1 c.requires.inside in
+    let i1 = inside_more k1 c.requires.ready.has.inside in
     IfOk-weaker c.no_early_ret.result _ _ (λ _ made. record {
       within = made.within;
-      is = λ w α cv t. made.is w ∙ ret_by _ _ _ _ _ _ (flow_kept k1 c.args.y.now w c.requires.flow)
+      is = λ w α cv t. made.is w ∙ ret_by _ _ _ _ _ _ (flow_kept k1 c.args.inputs.now.flow.now w c.requires.ready.has.flow)
           (c.in_ok-right.ensures.has_truth.is w α cv (tells_less c.no_early_ret.ensures.extends i1 t)) (k1.same c.args.plain w c.requires.plain_in);
     })
     c.no_early_ret.ensures.has_truth

@@ -8,5 +8,5 @@ use Rattle.pipe_motion_gates.proofs.motion.obligation_26.Goals as goal
 pub returns-clause-has_truth : goal.returns-clause-has_truth
 returns-clause-has_truth c = IfOk-weaker c.obligation_26.result _ _ (λ _ made. record {
   within = made.within;
-  is = λ w α cv t. made.is w ∙ ap (λ k. motion.o26 k (flow_at c.args.b.now w c.args.y.now)) (c.register_controls_of-controls.ensures.encodes c.args.b.now w α cv (tells_less c.obligation_26.ensures.extends c.requires.inside t));
+  is = λ w α cv t. made.is w ∙ ap (λ k. motion.o26 k (flow_at c.args.b.now w c.args.inputs.now.flow.now)) (c.register_controls_of-controls.ensures.encodes c.args.b.now w α cv (tells_less c.obligation_26.ensures.extends c.requires.ready.has.inside t));
 }) c.obligation_26.ensures.has_truth

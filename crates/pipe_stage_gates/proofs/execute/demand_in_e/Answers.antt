@@ -9,6 +9,6 @@ pub returns-clause-has_truth : goal.returns-clause-has_truth
 unfolding fields_of
 returns-clause-has_truth c =
     IfOk-weaker c.implies.result _ _ (λ _ made. asked_as
-    (gate_then_asked (λ a b. not a || b) c.requires.inside c.works.ensures.extends c.in_ok-works.ensures.has_truth c.by_icode.ensures.extends c.in_ok-asked.ensures.has_truth c.implies.ensures.extends made)
+    (gate_then_asked (λ a b. not a || b) c.requires.has.inside c.works.ensures.extends c.in_ok-works.ensures.has_truth c.by_icode.ensures.extends c.in_ok-asked.ensures.has_truth c.implies.ensures.extends made)
     (λ w α cv. refl))
     c.implies.ensures.has_truth

@@ -14,6 +14,6 @@ use Rattle.pipe_stage_gates.proofs.execute.obligation_14.Goals as goal
 pub returns-clause-has_truth : goal.returns-clause-has_truth
 returns-clause-has_truth c =
     IfOk-weaker c.demand_in_e.result _ _ (λ _ made. asked_as made
-    (λ w α cv. regroup (truth c.args.b.now c.args.good w && (fields_of w).e.stat == 1) (has_operand_a (row c.args.v (fields_of w).e.icode).alu_a)
-    (is_number cv alufun (alu_function (row c.args.v (fields_of w).e.icode).selects (fields_of w).e.ifun))))
+    (λ w α cv. regroup (truth c.args.b.now c.args.inputs.now.flow.now.e.good w && (fields_of w).e.stat == 1) (has_operand_a (row c.args.inputs.now.variant (fields_of w).e.icode).alu_a)
+    (is_number cv alufun (alu_function (row c.args.inputs.now.variant (fields_of w).e.icode).selects (fields_of w).e.ifun))))
     c.demand_in_e.ensures.has_truth

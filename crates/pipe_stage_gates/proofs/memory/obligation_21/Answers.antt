@@ -8,6 +8,6 @@ use Rattle.pipe_stage_gates.proofs.memory.obligation_21.Goals as goal
 pub returns-clause-has_truth : goal.returns-clause-has_truth
 returns-clause-has_truth c =
     IfOk-weaker c.implies.result _ _ (λ _ made. asked_as
-    (gate_then_asked (λ a b. not a || b) c.requires.inside (begins_self _) (gate_there c.requires.good) c.registers_written.ensures.extends c.in_ok-told.ensures.has_truth c.implies.ensures.extends made)
+    (gate_then_asked (λ a b. not a || b) c.requires.has.inside (begins_self _) (gate_there c.requires.has.flow.w.good) c.registers_written.ensures.extends c.in_ok-told.ensures.has_truth c.implies.ensures.extends made)
     (λ w α cv. refl))
     c.implies.ensures.has_truth

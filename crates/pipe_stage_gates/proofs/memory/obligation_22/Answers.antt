@@ -12,5 +12,5 @@ pub returns-clause-has_truth : goal.returns-clause-has_truth
 unfolding fields_of
 returns-clause-has_truth c =
     IfOk-weaker c.picks_leaf_if.result _ _ (λ _ made. asked_as made
-    (λ w α cv. ap (λ l. picks_leaf cv Stat l) (number_if (truth c.args.b.now c.args.good w) (fields_of w).w.stat 1)))
+    (λ w α cv. ap (λ l. picks_leaf cv Stat l) (number_if (truth c.args.b.now c.args.inputs.now.flow.now.w.good w) (fields_of w).w.stat 1)))
     c.picks_leaf_if.ensures.has_truth

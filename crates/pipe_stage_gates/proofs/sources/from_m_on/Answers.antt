@@ -10,7 +10,7 @@ use Rattle.pipe_stage_gates.proofs.sources.from_m_on.Goals as goal
 pub returns-clause-has_truth : goal.returns-clause-has_truth
 unfolding fields_of
 returns-clause-has_truth c =
-    let i1 = inside_more c.picks_leaf.ensures.extends c.requires.inside in
+    let i1 = inside_more c.picks_leaf.ensures.extends c.requires.has.inside in
     let i2 = inside_more c.from_stage.ensures.extends i1 in
     let i3 = inside_more c.from_stage-2.ensures.extends i2 in
     let i4 = inside_more c.from_stage-3.ensures.extends i3 in
