@@ -1,7 +1,7 @@
 //! The control values of all names at a valuation, along an order.
-ghost use Rattle.std.specs.Prelude.{◌≡◌, ◌≤◌, ◌<◌, ◌^◌, ℕ, IfOk, false, get_or, length, slice_get, slice_set};
+ghost use Rattle.std.specs.Prelude.{◌≡◌, ◌≤◌, ◌<◌, ◌^◌, ℕ, IfOk, length, slice_get, slice_set};
 ghost use Rattle.std.specs.List.{AllByRecursion};
-ghost use Rattle.net_fields.specs.Spelling.{bit, spelt};
+ghost use Rattle.net_fields.specs.Spelling.{spelt};
 ghost use Rattle.hcl_types.specs.Tables.{IsOrderOf, IsSound};
 ghost use Rattle.hcl_types.specs.Terms.{value};
 ghost use Rattle.ctl_atoms.specs.declared.leaf.Leaf.TheVariants.{Number};
@@ -11,7 +11,7 @@ ghost use Rattle.ctl_equations.specs.Controls.{AreControls, control_rule, field_
 ghost use Rattle.ctl_equations.specs.Controls as spec;
 ghost use Rattle.control_values.specs.Given.{AreNear, assigned, at, field_at, given_leaf};
 
-use crate::scope::Scope;
+use crate::scope::{Scope, bit_at};
 use ctl_atoms::{Atom, Leaf, definitions_before};
 use hcl_types::{Class, NameId, OrderedDesign, Role, Row, Table, Term};
 use net_fields::{FieldSpec, place_in};
@@ -27,16 +27,6 @@ pub struct Situation<'a> {
     pub bits: &'a [bool],
 }
 
-/// A bit of a valuation as a number.
-fn bit_number(bits: &[bool], i: usize) -> u64
-    ensures { result ≡ bit (get_or bits.now i false) }
-{
-    match bits.get(i).copied().unwrap_or(false) {
-        true => 1,
-        false => 0,
-    }
-}
-
 /// The number that some bits of a valuation spell, the most significant one first.
 #[tactic(auto, using(net_fields::proofs::Loops::number_none, net_fields::proofs::Loops::number_more, net_fields::proofs::Loops::number_small))]
 pub fn number_at(bits: &[bool], first: usize, count: usize) -> u64
@@ -46,7 +36,7 @@ pub fn number_at(bits: &[bool], first: usize, count: usize) -> u64
 {
     let mut n = 0;
     for k in 0..count {
-        n = 2 * n + bit_number(bits, first + k);
+        n = 2 * n + u64::from(bit_at(bits, first + k));
     }
     n
 }

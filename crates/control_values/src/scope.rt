@@ -21,7 +21,7 @@ pub struct Scope<'a> {
 }
 
 /// A bit of a valuation; false past its end.
-fn bit_at(bits: &[bool], i: usize) -> bool
+pub(crate) fn bit_at(bits: &[bool], i: usize) -> bool
     ensures { result ≡ get_or bits.now i false }
 {
     bits.get(i).copied().unwrap_or(false)

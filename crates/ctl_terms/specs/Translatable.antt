@@ -18,6 +18,7 @@ use Rattle.ctl_picks.specs.Picks.{entry_truth, entry_word}
 use Rattle.ctl_picks.specs.TakenPicks.{at}
 use Rattle.ctl_picks.specs.Entries.{entry_leaves, EntryEncodes, EntryWithin}
 use Rattle.ctl_terms.specs.Pairs.{leaves_listed}
+use Rattle.ctl_terms.specs.declared.scope.Scope.{Scope}
 
 -- about a term: whether it is the number 1, whether it can be translated as a truth and as a word, and the leaves that
 -- it can pick
@@ -69,3 +70,16 @@ pub record HasScope (n : Gates) (es : List Entry) (listed : List Atom) (first : 
 pub record EncodesSoFar (n : Gates) (es : List Entry) (listed : List Atom) (first : ℕ) (w : List Bool) (α : Assignment) (cv : ℕ → Leaf) : Type 0 where
   pub atoms : AtomsAre listed first w α
   pub entries : (id : ℕ) (e : Entry) → slice_get es id ≡ Some e → EntryEncodes (at n w) α e (cv id)
+
+-- these four at the entries and the atoms of a scope
+abbrev pub translatable_in : Scope → Term → Translatable
+translatable_in s = translatable s.entries.now s.atoms.now
+
+abbrev pub branch_ready_in : Scope → TermBranch → Translatable × Translatable
+branch_ready_in s = branch_ready s.entries.now s.atoms.now
+
+abbrev pub IsScopeIn : Gates → Scope → Type 0
+IsScopeIn n s = HasScope n s.entries.now s.atoms.now s.first
+
+abbrev pub EncodesScope : Gates → Scope → List Bool → Assignment → (ℕ → Leaf) → Type 0
+EncodesScope n s = EncodesSoFar n s.entries.now s.atoms.now s.first

@@ -8,7 +8,7 @@ ghost use Rattle.ctl_atoms.specs.Leaves.{Assignment, leaf_meaning};
 ghost use Rattle.ctl_atoms.specs.Rows.{defined_leaves};
 ghost use Rattle.ctl_picks.specs.TakenPicks.{at};
 ghost use Rattle.ctl_picks.specs.Entries.{EntryEncodes, EntryWithin, IsEntryOf};
-ghost use Rattle.ctl_terms.specs.Translatable.{HasScope, EncodesSoFar, translatable};
+ghost use Rattle.ctl_terms.specs.Translatable.{IsScopeIn, EncodesScope, translatable_in};
 
 use crate::scope::Scope;
 use ctl_picks::Entry;
@@ -26,13 +26,13 @@ impl<'a> Scope<'a> {
         class: Class,
         t: &Term,
     ) -> Result<Entry, Memory>
-        requires open { HasScope b.old self.now.entries.now self.now.atoms.now self.now.first }
-        requires truth { is_truth class ≡ true → IsTrue (translatable self.now.entries.now self.now.atoms.now t.now).truth }
-        requires word { is_truth class ≡ false → IsTrue (translatable self.now.entries.now self.now.atoms.now t.now).word }
+        requires open { IsScopeIn b.old self.now }
+        requires truth { is_truth class ≡ true → IsTrue (translatable_in self.now t.now).truth }
+        requires word { is_truth class ≡ false → IsTrue (translatable_in self.now t.now).word }
         ensures extends { ExtendsNet b.old b.new }
         ensures within { IfOk result (EntryWithin (length b.new.gates)) }
-        ensures entry { IfOk result (IsEntryOf class (defined_leaves class (translatable self.now.entries.now self.now.atoms.now t.now).leaves)) }
-        ensures is { (w : List Bool) (α : Assignment) (cv : ℕ → Leaf) → EncodesSoFar b.old self.now.entries.now self.now.atoms.now self.now.first w α cv →
+        ensures entry { IfOk result (IsEntryOf class (defined_leaves class (translatable_in self.now t.now).leaves)) }
+        ensures is { (w : List Bool) (α : Assignment) (cv : ℕ → Leaf) → EncodesScope b.old self.now w α cv →
             IfOk result (λ e. EntryEncodes (at b.new w) α e (value (leaf_meaning α) cv t.now)) }
     {
         match class {

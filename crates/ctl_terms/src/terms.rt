@@ -11,7 +11,7 @@ ghost use Rattle.nets.specs.Nets.{ExtendsNet, truth};
 ghost use Rattle.ctl_atoms.specs.Leaves.{Assignment, leaf_eq, leaf_holds, leaf_cmp, leaf_meaning};
 ghost use Rattle.ctl_picks.specs.TakenPicks.{IsOnlyTaken, at, leaf_taken};
 ghost use Rattle.ctl_picks.specs.Picks.{Within, leaves_of, entry_truth, entry_word};
-ghost use Rattle.ctl_terms.specs.Translatable.{HasScope, EncodesSoFar, translatable, truths, members, branches, branch_ready, case_leaves};
+ghost use Rattle.ctl_terms.specs.Translatable.{IsScopeIn, EncodesScope, translatable, translatable_in, truths, members, branches, branch_ready_in, case_leaves};
 ghost use Rattle.ctl_atoms.specs.TermAtoms.{joined};
 ghost use Rattle.hcl_types.specs.Lists.{each, some};
 ghost use Rattle.hcl_types.specs.Terms.{picked, value, branch_value};
@@ -69,11 +69,11 @@ impl<'a> Scope<'a> {
     /// The gate of a term that is a truth.
     #[cycle(translation)]
     pub fn truth(&self, alloc: Global, b: &mut NetBuilder, t: &Term) -> Result<u64, Memory>
-        requires open { HasScope b.old self.now.entries.now self.now.atoms.now self.now.first }
-        requires planned { IsTrue (translatable self.now.entries.now self.now.atoms.now t.now).truth }
+        requires open { IsScopeIn b.old self.now }
+        requires planned { IsTrue (translatable_in self.now t.now).truth }
         ensures extends { ExtendsNet b.old b.new }
         ensures within { IfOk result (λ g. g < length b.new.gates) }
-        ensures is { (w : List Bool) (α : Assignment) (cv : ℕ → Leaf) → EncodesSoFar b.old self.now.entries.now self.now.atoms.now self.now.first w α cv →
+        ensures is { (w : List Bool) (α : Assignment) (cv : ℕ → Leaf) → EncodesScope b.old self.now w α cv →
             IfOk result (λ g. truth b.new g w ≡ leaf_holds α (value (leaf_meaning α) cv t.now)) }
     {
         match t {
@@ -101,12 +101,12 @@ impl<'a> Scope<'a> {
     /// The picks of a term that is a word.
     #[cycle(translation)]
     pub fn word(&self, alloc: Global, b: &mut NetBuilder, t: &Term) -> Result<Vec<Pick>, Memory>
-        requires open { HasScope b.old self.now.entries.now self.now.atoms.now self.now.first }
-        requires planned { IsTrue (translatable self.now.entries.now self.now.atoms.now t.now).word }
+        requires open { IsScopeIn b.old self.now }
+        requires planned { IsTrue (translatable_in self.now t.now).word }
         ensures extends { ExtendsNet b.old b.new }
         ensures within { IfOk result (λ ps. Within (length b.new.gates) ps.items) }
-        ensures leaves { IfOk result (λ ps. leaves_of ps.items ≡ (translatable self.now.entries.now self.now.atoms.now t.now).leaves) }
-        ensures is { (w : List Bool) (α : Assignment) (cv : ℕ → Leaf) → EncodesSoFar b.old self.now.entries.now self.now.atoms.now self.now.first w α cv →
+        ensures leaves { IfOk result (λ ps. leaves_of ps.items ≡ (translatable_in self.now t.now).leaves) }
+        ensures is { (w : List Bool) (α : Assignment) (cv : ℕ → Leaf) → EncodesScope b.old self.now w α cv →
             IfOk result (λ ps. IsOnlyTaken (at b.new w) ps.items (value (leaf_meaning α) cv t.now)) }
     {
         match t {
@@ -128,11 +128,11 @@ impl<'a> Scope<'a> {
     /// A gate that is true if each term is.
     #[cycle(translation)]
     fn all_of(&self, alloc: Global, b: &mut NetBuilder, all: &[Term]) -> Result<u64, Memory>
-        requires open { HasScope b.old self.now.entries.now self.now.atoms.now self.now.first }
-        requires planned { IsTrue (truths (map (translatable self.now.entries.now self.now.atoms.now) all.now)) }
+        requires open { IsScopeIn b.old self.now }
+        requires planned { IsTrue (truths (map (translatable_in self.now) all.now)) }
         ensures extends { ExtendsNet b.old b.new }
         ensures within { IfOk result (λ g. g < length b.new.gates) }
-        ensures is { (w : List Bool) (α : Assignment) (cv : ℕ → Leaf) → EncodesSoFar b.old self.now.entries.now self.now.atoms.now self.now.first w α cv →
+        ensures is { (w : List Bool) (α : Assignment) (cv : ℕ → Leaf) → EncodesScope b.old self.now w α cv →
             IfOk result (λ g. truth b.new g w ≡ each (leaf_holds α) (map (value (leaf_meaning α) cv) all.now)) }
     {
         let mut g = b.constant(true)?;
@@ -146,11 +146,11 @@ impl<'a> Scope<'a> {
     /// A gate that is true if some term is.
     #[cycle(translation)]
     fn any_of(&self, alloc: Global, b: &mut NetBuilder, all: &[Term]) -> Result<u64, Memory>
-        requires open { HasScope b.old self.now.entries.now self.now.atoms.now self.now.first }
-        requires planned { IsTrue (truths (map (translatable self.now.entries.now self.now.atoms.now) all.now)) }
+        requires open { IsScopeIn b.old self.now }
+        requires planned { IsTrue (truths (map (translatable_in self.now) all.now)) }
         ensures extends { ExtendsNet b.old b.new }
         ensures within { IfOk result (λ g. g < length b.new.gates) }
-        ensures is { (w : List Bool) (α : Assignment) (cv : ℕ → Leaf) → EncodesSoFar b.old self.now.entries.now self.now.atoms.now self.now.first w α cv →
+        ensures is { (w : List Bool) (α : Assignment) (cv : ℕ → Leaf) → EncodesScope b.old self.now w α cv →
             IfOk result (λ g. truth b.new g w ≡ some (leaf_holds α) (map (value (leaf_meaning α) cv) all.now)) }
     {
         let mut g = b.constant(false)?;
@@ -170,12 +170,12 @@ impl<'a> Scope<'a> {
         ps: &[Pick],
         all: &[Term],
     ) -> Result<u64, Memory>
-        requires open { HasScope b.old self.now.entries.now self.now.atoms.now self.now.first }
+        requires open { IsScopeIn b.old self.now }
         requires within { Within (length b.old.gates) ps.now }
-        requires planned { IsTrue (members self.now.atoms.now (leaves_of ps.now) (map (translatable self.now.entries.now self.now.atoms.now) all.now)) }
+        requires planned { IsTrue (members self.now.atoms.now (leaves_of ps.now) (map (translatable_in self.now) all.now)) }
         ensures extends { ExtendsNet b.old b.new }
         ensures within { IfOk result (λ g. g < length b.new.gates) }
-        ensures is { (w : List Bool) (α : Assignment) (cv : ℕ → Leaf) (x : Leaf) → EncodesSoFar b.old self.now.entries.now self.now.atoms.now self.now.first w α cv → IsOnlyTaken (at b.old w) ps.now x →
+        ensures is { (w : List Bool) (α : Assignment) (cv : ℕ → Leaf) (x : Leaf) → EncodesScope b.old self.now w α cv → IsOnlyTaken (at b.old w) ps.now x →
             IfOk result (λ g. truth b.new g w ≡ some (leaf_cmp α Eq x) (map (value (leaf_meaning α) cv) all.now)) }
     {
         let mut g = b.constant(false)?;
@@ -195,12 +195,12 @@ impl<'a> Scope<'a> {
         b: &mut NetBuilder,
         all: &[TermBranch],
     ) -> Result<Vec<Pick>, Memory>
-        requires open { HasScope b.old self.now.entries.now self.now.atoms.now self.now.first }
-        requires planned { IsTrue (branches (map (branch_ready self.now.entries.now self.now.atoms.now) all.now)) }
+        requires open { IsScopeIn b.old self.now }
+        requires planned { IsTrue (branches (map (branch_ready_in self.now) all.now)) }
         ensures extends { ExtendsNet b.old b.new }
         ensures within { IfOk result (λ ps. Within (length b.new.gates) ps.items) }
-        ensures leaves { IfOk result (λ ps. leaves_of ps.items ≡ case_leaves [] (map (branch_ready self.now.entries.now self.now.atoms.now) all.now)) }
-        ensures is { (w : List Bool) (α : Assignment) (cv : ℕ → Leaf) → EncodesSoFar b.old self.now.entries.now self.now.atoms.now self.now.first w α cv →
+        ensures leaves { IfOk result (λ ps. leaves_of ps.items ≡ case_leaves [] (map (branch_ready_in self.now) all.now)) }
+        ensures is { (w : List Bool) (α : Assignment) (cv : ℕ → Leaf) → EncodesScope b.old self.now w α cv →
             IfOk result (λ ps. IsOnlyTaken (at b.new w) ps.items (picked (leaf_holds α) (Number 0) (map (branch_value (leaf_meaning α) cv) all.now))) }
     {
         let mut out = Vec::new(alloc);
@@ -225,18 +225,18 @@ impl<'a> Scope<'a> {
         free: u64,
         branch: &TermBranch,
     ) -> Result<u64, Memory>
-        requires open { HasScope b.old self.now.entries.now self.now.atoms.now self.now.first }
+        requires open { IsScopeIn b.old self.now }
         requires within { Within (length b.old.gates) out.old.items }
         requires gate { free < length b.old.gates }
-        requires guard { IsTrue (translatable self.now.entries.now self.now.atoms.now branch.now.guard).truth }
-        requires value { IsTrue (translatable self.now.entries.now self.now.atoms.now branch.now.value).word }
+        requires guard { IsTrue (translatable_in self.now branch.now.guard).truth }
+        requires value { IsTrue (translatable_in self.now branch.now.value).word }
         ensures extends { ExtendsNet b.old b.new }
         ensures within { OnOk result (Within (length b.new.gates) out.new.items) }
         ensures gate { IfOk result (λ g. g < length b.new.gates) }
-        ensures leaves { OnOk result (leaves_of out.new.items ≡ joined (leaves_of out.old.items) (translatable self.now.entries.now self.now.atoms.now branch.now.value).leaves) }
-        ensures shut { (w : List Bool) (α : Assignment) (cv : ℕ → Leaf) → EncodesSoFar b.old self.now.entries.now self.now.atoms.now self.now.first w α cv → leaf_holds α (value (leaf_meaning α) cv branch.now.guard) ≡ true →
+        ensures leaves { OnOk result (leaves_of out.new.items ≡ joined (leaves_of out.old.items) (translatable_in self.now branch.now.value).leaves) }
+        ensures shut { (w : List Bool) (α : Assignment) (cv : ℕ → Leaf) → EncodesScope b.old self.now w α cv → leaf_holds α (value (leaf_meaning α) cv branch.now.guard) ≡ true →
             IfOk result (λ g. truth b.new g w ≡ false) }
-        ensures is { (w : List Bool) (α : Assignment) (cv : ℕ → Leaf) → EncodesSoFar b.old self.now.entries.now self.now.atoms.now self.now.first w α cv → (r y : Leaf) →
+        ensures is { (w : List Bool) (α : Assignment) (cv : ℕ → Leaf) → EncodesScope b.old self.now w α cv → (r y : Leaf) →
             IfOk result (λ g. leaf_taken (at b.new w) out.new.items y || (truth b.new g w && leaf_eq r y) ≡
             leaf_taken (at b.old w) out.old.items y || (truth b.old free w && leaf_eq (if leaf_holds α (value (leaf_meaning α) cv branch.now.guard) then value (leaf_meaning α) cv branch.now.value else r) y)) }
     {

@@ -58,6 +58,10 @@ is_pc_repair v s c y mv α leaves source = meets_motion v s c y mv α (at (with_
 unfoldable pub pc_repairs : Variant → Settings → Fields → Flow → RegisterControls → Assignment → List Leaf → List ℕ
 pc_repairs v s c y mv α leaves = filter (is_pc_repair v s c y mv α leaves) pc_sources
 
+-- whether they are met with this signal inverted
+abbrev pub is_signal_repair : Variant → Settings → Fields → Flow → RegisterControls → Assignment → (ℕ → Leaf) → ℕ → Bool
+is_signal_repair v s c y mv α cv name = meets_motion v s c y (with_inverted name mv) α cv
+
 -- the signals that each, inverted alone, meet them all
 unfoldable pub signal_repairs : Variant → Settings → Fields → Flow → RegisterControls → Assignment → (ℕ → Leaf) → List ℕ
-signal_repairs v s c y mv α cv = filter (λ name. meets_motion v s c y (with_inverted name mv) α cv) stall_bubble_signals
+signal_repairs v s c y mv α cv = filter (is_signal_repair v s c y mv α cv) stall_bubble_signals

@@ -1,5 +1,5 @@
 -- Two changes made together, and all changes that meet all obligations on motion.
-use Rattle.std.specs.Prelude.{ℕ, ◌≡◌, Bool, ◌&&◌, ◌==◌, if◌then◌else◌, List, [], ◌∷◌, ◌++◌, filter, length, map}
+use Rattle.std.specs.Prelude.{ℕ, Bool, ◌&&◌, ◌==◌, if◌then◌else◌, List, [], ◌∷◌, ◌++◌, filter, length, map}
 use Rattle.y86_base.specs.declared.parts.Variant.{Variant}
 use Rattle.ctl_atoms.specs.declared.leaf.Leaf.{Leaf}
 use Rattle.ctl_atoms.specs.Leaves.{Assignment}
@@ -9,7 +9,7 @@ use Rattle.pipe_motion.specs.Flow.{Flow, RegisterControls}
 use Rattle.pipe_motion.specs.declared.settings.Settings.{Settings}
 use Rattle.motion_repairs.specs.declared.pairs.Pair.{Pair}
 use Rattle.motion_repairs.specs.declared.pairs.Repairs.{Repairs}
-use Rattle.motion_repairs.specs.Changes.{meets_motion, is_pc_repair, pc_repairs, pc_sources, signal_repairs, stall_bubble_signals, with_inverted}
+use Rattle.motion_repairs.specs.Changes.{is_pc_repair, is_signal_repair, pc_repairs, pc_sources, signal_repairs, stall_bubble_signals, with_inverted}
 
 -- a name with each of some others
 abbrev pub pairs_with : ℕ → List ℕ → List Pair
@@ -28,7 +28,7 @@ combinations (first ∷ rest) seconds = pairs_with first seconds ++ combinations
 module _ (v : Variant) (s : Settings) (c : Fields) (y : Flow) (mv : RegisterControls) (α : Assignment) (leaves : List Leaf) where
   -- whether they are met with both signals inverted
   unfoldable pub is_met_by_both : Pair → Bool
-  is_met_by_both pair = meets_motion v s c y (with_inverted pair.second (with_inverted pair.first mv)) α (at leaves)
+  is_met_by_both pair = is_signal_repair v s c y (with_inverted pair.first mv) α (at leaves) pair.second
 
   -- whether they are met with the first name inverted, if f_pc picks the second one
   unfoldable pub is_met_with_pc : Pair → Bool
@@ -46,9 +46,11 @@ module _ (v : Variant) (s : Settings) (c : Fields) (y : Flow) (mv : RegisterCont
   unfoldable pub needs_two : Bool
   needs_two = length (signal_repairs v s c y mv α (at leaves)) == 0 && length (pc_repairs v s c y mv α leaves) == 0
 
-  -- All changes that meet them all; pairs are listed only if no single change meets them.
-  pub record AreRepairs (r : Repairs) : Type 0 where
-    pub invert : r.invert ≡ signal_repairs v s c y mv α (at leaves)
-    pub f_pc : r.f_pc ≡ pc_repairs v s c y mv α leaves
-    pub invert_both : r.invert_both ≡ (if needs_two then both_repairs else [])
-    pub invert_and_f_pc : r.invert_and_f_pc ≡ (if needs_two then repairs_with_pc else [])
+  -- all changes that meet them all; pairs are listed only if no single change meets them
+  abbrev pub repairs_of : Repairs
+  repairs_of = record {
+    invert = signal_repairs v s c y mv α (at leaves);
+    f_pc = pc_repairs v s c y mv α leaves;
+    invert_both = if needs_two then both_repairs else [];
+    invert_and_f_pc = if needs_two then repairs_with_pc else [];
+  }

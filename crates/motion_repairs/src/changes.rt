@@ -2,7 +2,7 @@
 ghost use Rattle.std.specs.Prelude.{◌≡◌, ◌&&◌, IfOk, filter};
 ghost use Rattle.control_values.specs.Given.{at};
 ghost use Rattle.pipe_requirements.specs.Requirements.{unread};
-ghost use Rattle.pipe_requirements.specs.Flows.{fields_in, as_register_control, as_register_controls, as_flow, at_now};
+ghost use Rattle.pipe_requirements.specs.Flows.{as_register_control, as_register_controls, at_now};
 ghost use Rattle.pipe_obligations.specs.Obligations as rule;
 ghost use Rattle.motion_repairs.specs.Changes as spec;
 
@@ -104,7 +104,7 @@ pub fn meets_motion(n: &Now<'_>) -> bool
 
 /// Whether they are met with one of the signals inverted.
 pub(crate) fn is_repaired(n: &Now<'_>, signal: NameId) -> bool
-    ensures { result ≡ spec.meets_motion n.now.v n.now.s.now (fields_in n.now.l.now) (as_flow n.now.y.now) (spec.with_inverted signal (as_register_controls n.now.mv.now)) unread (at n.now.leaves.now) }
+    ensures { result ≡ at_now spec.is_signal_repair n.now unread (at n.now.leaves.now) signal }
 {
     let mv = with_inverted(signal, n.mv);
     let other = Now {

@@ -2,7 +2,7 @@
 ghost use Rattle.std.specs.Prelude.{◌≡◌, ◌++◌, IfOk, OnOk, filter, if◌then◌else◌};
 ghost use Rattle.control_values.specs.Given.{at};
 ghost use Rattle.pipe_requirements.specs.Requirements.{unread};
-ghost use Rattle.pipe_requirements.specs.Flows.{fields_in, as_register_controls, as_flow, at_now};
+ghost use Rattle.pipe_requirements.specs.Flows.{at_now};
 ghost use Rattle.motion_repairs.specs.Pairs as spec;
 
 use crate::changes::{
@@ -159,7 +159,7 @@ fn repairs_with_pc(alloc: Global, n: &Now<'_>) -> Result<Vec<Pair>, Memory>
 /// All changes that meet all obligations on motion.
 #[tactic(auto, unfolding(crate::specs::Pairs::needs_two))]
 pub fn repairs_of(alloc: Global, n: &Now<'_>) -> Result<Repairs, Memory>
-    ensures { IfOk result (spec.AreRepairs n.now.v n.now.s.now (fields_in n.now.l.now) (as_flow n.now.y.now) (as_register_controls n.now.mv.now) unread n.now.leaves.now) }
+    ensures { IfOk result (λ r. r ≡ at_now spec.repairs_of n.now unread n.now.leaves.now) }
 {
     let invert = signal_repairs(alloc, n)?;
     let f_pc = pc_repairs(alloc, n)?;

@@ -15,7 +15,7 @@ use Rattle.pipe_obligations.specs.FileSettings.{PipeControls}
 use Rattle.pipe_obligations.specs.StageFlows.{flow_of}
 use Rattle.findings.specs.Findings.{are_right, finding}
 use Rattle.pipe_requirements.specs.Requirements.{first_on_motion, requirements, unread}
-use Rattle.motion_repairs.specs.Pairs.{AreRepairs}
+use Rattle.motion_repairs.specs.Pairs.{repairs_of}
 use Rattle.pipe_diagnosis.specs.declared.diagnosis.Diagnosis.{Diagnosis}
 
 -- Obligation i is false at the valuation that the bits spell.
@@ -33,4 +33,4 @@ pub record IsDiagnosis (v : Variant) (terms : List Term) (s : Settings) (atoms :
   -- of the requirements of an obligation before those on motion, at least one isn't met
   pub one_wrong : i < first_on_motion → are_right diagnosis.findings ≡ false
   -- the changes that would meet all obligations on motion
-  pub repairs : AreRepairs v s (fields_of w) (flow_of v s (fields_of w)) (register_controls_of (assigned atoms bit_count w) (at diagnosis.leaves)) unread diagnosis.leaves diagnosis.repairs
+  pub repairs : diagnosis.repairs ≡ repairs_of v s (fields_of w) (flow_of v s (fields_of w)) (register_controls_of (assigned atoms bit_count w) (at diagnosis.leaves)) unread diagnosis.leaves

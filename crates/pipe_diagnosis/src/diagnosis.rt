@@ -112,9 +112,9 @@ fn found_at(
         (requirements file.now.variant file.now.settings.now (fields_of scope.now.bits.now)
         (stages.flow_of file.now.variant file.now.settings.now (fields_of scope.now.bits.now))
         (rule.register_controls_of (assigned scope.now.atoms.now scope.now.first scope.now.bits.now) (at scope.now.leaves.now)) (at scope.now.leaves.now) number)) }
-    ensures repairs { IfOk result (λ r. pairs.AreRepairs file.now.variant file.now.settings.now (fields_of scope.now.bits.now)
+    ensures repairs { IfOk result (λ r. r.repairs ≡ pairs.repairs_of file.now.variant file.now.settings.now (fields_of scope.now.bits.now)
         (stages.flow_of file.now.variant file.now.settings.now (fields_of scope.now.bits.now))
-        (rule.register_controls_of (assigned scope.now.atoms.now scope.now.first scope.now.bits.now) (at scope.now.leaves.now)) unread scope.now.leaves.now r.repairs) }
+        (rule.register_controls_of (assigned scope.now.atoms.now scope.now.first scope.now.bits.now) (at scope.now.leaves.now)) unread scope.now.leaves.now) }
 {
     let l = lines_of(scope.bits);
     let y = flow_of(file.variant, file.settings, &l);

@@ -1,22 +1,12 @@
 //! The output of labels and numbers.
-ghost use Rattle.std.specs.Prelude.{◌≡◌, ◌≤◌, ◌%◌, ◌^◌, ◌++◌, codes, true, false, get_or, OnOk};
+ghost use Rattle.std.specs.Prelude.{◌≡◌, ◌≤◌, ◌%◌, ◌^◌, ◌++◌, codes, true, OnOk};
 ghost use Rattle.y86_base.specs.Numeral.{numeral};
-ghost use Rattle.net_fields.specs.Spelling.{bit, spelt};
+ghost use Rattle.net_fields.specs.Spelling.{spelt};
 ghost use Rattle.verdict_text.specs.Fields.{labelled, labelled_line};
 ghost use Rattle.verdict_text.specs.Views.{are_few, shown};
 
 use net_fields::BitRange;
 use y86_base::{Memory, put, put_decimal};
-
-/// A bit of a valuation as a number.
-fn bit_at(bits: &[bool], i: usize) -> u64
-    ensures { result ≡ bit (get_or bits.now i false) }
-{
-    match bits.get(i).copied().unwrap_or(false) {
-        true => 1,
-        false => 0,
-    }
-}
 
 /// The number that some bits of a valuation spell, the most significant one first.
 #[tactic(auto, using(net_fields::proofs::Loops::number_none, crate::proofs::Few::one_more))]
@@ -26,7 +16,8 @@ pub(crate) fn number_at(bits: &[bool], place: BitRange) -> u64
     let first = place.first as usize;
     let mut n: u64 = 0;
     for k in 0..place.bits as usize {
-        n = n.wrapping_mul(2).wrapping_add(bit_at(bits, first + k));
+        let bit = bits.get(first + k).copied().unwrap_or(false);
+        n = n.wrapping_mul(2).wrapping_add(u64::from(bit));
     }
     n
 }

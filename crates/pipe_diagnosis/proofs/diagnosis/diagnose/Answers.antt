@@ -9,7 +9,7 @@ use Rattle.control_values.specs.Given.{assigned, at, field_at}
 use Rattle.net_fields.specs.declared.field_specs.FieldSpec.{FieldSpec}
 use Rattle.pipe_fields.specs.Layout.{bit_count, fields_of, field_specs}
 use Rattle.pipe_requirements.specs.Requirements.{requirements, unread}
-use Rattle.motion_repairs.specs.Pairs.{AreRepairs}
+use Rattle.motion_repairs.specs.Pairs.{repairs_of}
 use Rattle.pipe_obligations.specs.Obligations.{register_controls_of}
 use Rattle.pipe_obligations.specs.StageFlows.{flow_of}
 use Rattle.findings.proofs.EachMet.{atoms_given}
@@ -48,6 +48,6 @@ returns c =
         false_there = false_there;
         findings = findings;
         one_wrong = λ lt. ap are_right findings ∙ one_wrong v terms s atoms i w α cv c.requires.first lt false_there;
-        repairs = subst (λ (xs : List Leaf). AreRepairs v s (fields_of w) (flow_of v s (fields_of w)) (register_controls_of α (at xs)) unread xs c.in_ok-found.found.repairs) same c.in_ok-found.ensures.repairs;
+        repairs = c.in_ok-found.ensures.repairs ∙ ap (λ (xs : List Leaf). repairs_of v s (fields_of w) (flow_of v s (fields_of w)) (register_controls_of α (at xs)) unread xs) same;
       };
     }
