@@ -1,5 +1,5 @@
 -- From the decision on the rules of a sequential datapath to the verdict on the design.
-use Rattle.std.proofs.Common.{ℕ, ◌≤◌, List, Some, None, sym, ◌∙◌, Bool}
+use Rattle.std.proofs.Common.{◌≡◌, ℕ, ◌≤◌, List, Some, None, sym, subst, ◌∙◌, Bool}
 use Rattle.std.proofs.lemmas.Bool.{false≢true}
 use Rattle.y86_base.specs.declared.parts.Variant.{Variant}
 use Rattle.nets.specs.Nets.{Gates}
@@ -72,3 +72,14 @@ module _ (which : SequentialDatapath) (v : Variant) (terms : List Term) (net : G
         refused = rejected_by which v terms no.1 failure.rule failure.valuation.bits no.3.from_one no.3.to_last no.3.least.holds;
         least = no.3;
       }
+
+  -- the same for the list that is decided, if it is that of the rules
+  module _ (decided : List Rule) (same : decided ≡ list) where
+    pub decided_gates : HaveGatesOfNet net decided
+    decided_gates = subst (HaveGatesOfNet net) (sym same) gates_of
+
+    pub decided_accepts : IsRuleDecision net decided None → Accepts which v terms
+    decided_accepts d = accepts (subst (λ (xs : List Rule). IsRuleDecision net xs None) same d)
+
+    pub decided_refines : IsBound (rows_of which) terms → IsRuleDecision net decided None → Refines which v terms
+    decided_refines bound d = refines which v terms ids bound ordered (decided_accepts d)

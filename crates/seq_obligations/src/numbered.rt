@@ -70,8 +70,6 @@ pub trait RuleFamily {
     fn demand(&self, b: &mut NetBuilder, ctl: &Controls, number: u32) -> Result<u64, Memory>
         requires inside { IsInside b.old ctl.now }
         requires known { knows self.now b.old.vars ctl.now }
-        requires from { 1 ≤ number }
-        requires to { number ≤ rule_count }
         ensures extends { ExtendsNet b.old b.new }
         ensures has_truth { IfOk result (λ g. IsControlGate b.new ctl.now g (asks self.now number)) };
 
@@ -96,8 +94,6 @@ fn rule_told<N: RuleFamily>(
     requires inside { IsInside b.old ctl.now }
     requires known { N.knows rules.now b.old.vars ctl.now }
     requires fits { IsControlGate b.old ctl.now fits (N.may rules.now) }
-    requires from { 1 ≤ number }
-    requires to { number ≤ rule_count }
     ensures extends { ExtendsNet b.old b.new }
     ensures has_truth { IfOk result (λ g. IsControlGate b.new ctl.now g (λ w α cv. not (N.may rules.now w α cv) || N.asks rules.now number w α cv)) }
 {

@@ -1,20 +1,16 @@
 -- The observed machine is the machine of the run, by induction on the number of cycles.
-use Rattle.std.proofs.Common.{◌≡◌, ℕ, zero, suc, ◌+◌, ◌<◌, true, false, List, [], ◌∷◌, ◌++◌, length, Option, Some, Result, Ok, Err, IfOk, refl, sym, ◌∙◌, ap, subst, arith, add-one, length-append}
+use Rattle.std.proofs.Common.{◌≡◌, ℕ, zero, suc, ◌+◌, ◌<◌, true, false, List, [], ◌∷◌, ◌++◌, length, Some, Result, Ok, Err, IfOk, refl, sym, ◌∙◌, ap, subst, arith, add-one, length-append}
+use Rattle.std.proofs.lemmas.Bool.{false≢true}
 use Rattle.y86_base.specs.declared.parts.Stat.{Stat}
 use Rattle.y86_base.specs.declared.parts.Variant.{Variant}
-use Rattle.y86_isa.specs.Machine.{is_aok, start}
-use Rattle.y86_isa.specs.declared.machine.Machine.{Machine}
+use Rattle.y86_isa.specs.Machine.{is_aok}
 use Rattle.y86_isa.specs.declared.machine.Rec.{Rec}
 use Rattle.hcl_types.specs.declared.term.Term.{Term}
-use Rattle.dp_signals.specs.After.{IsAfter}
-use Rattle.dp_sequential.specs.Seq.{IsSeqCycle, seq_record}
-use Rattle.seq_plus.specs.PlusCycle.{plus_record}
-use Rattle.seq_plus.specs.PlusRun.{IsPlusCycle, plus_start}
-use Rattle.seq_plus.specs.declared.state.PlusState.{PlusState}
+use Rattle.dp_sequential.specs.Path.{IsCycle, RunFrom, SequentialPath}
 use Rattle.pipe_stage_text.specs.declared.observer.CycleRange.{CycleRange}
-use Rattle.seq_text.specs.Laws.{PlusWatchesTheRun, SeqWatchesTheRun}
+use Rattle.seq_text.specs.Laws.{WatchesTheRun}
 use Rattle.pipe_stage_text.specs.Cycle.{end_line}
-use Rattle.seq_text.specs.Observer.{PlusShows, SeqShows, ShowsRun, Observes, ObservesTo, plus_stat, seq_stat, shown}
+use Rattle.seq_text.specs.Observer.{CycleText, Observes, ObservesTo, Shows, ShowsRun, shown}
 
 -- another cycle of an observed machine
 pub watches_more : {S : Type 0} (Shows : S → List ℕ → S → Type 0) (stat : S → Stat) (window : CycleRange) (first : S) (k : ℕ) (u s : S) (before text lines : List ℕ) →
@@ -45,30 +41,17 @@ longer : (records : List Rec) (r : Rec) (k : ℕ) → length records ≡ k → l
 longer records r k e = length-append records (r ∷ []) ∙ ap (λ n. n + 1) e ∙ add-one k
 
 -- each cycle that is shown is one of the machine, and leaves a record
-module _ {S : Type 0} (Shows : S → List ℕ → S → Type 0) (Cycle : S → Option Rec → S → Type 0) (stat : S → Stat)
-    (one : (s : S) (lines : List ℕ) (t : S) → is_aok (stat s) ≡ true → Shows s lines t → (r : Rec) × Cycle s (Some r) t) where
-  the_run : (window : CycleRange) (first : S) (k : ℕ) (s : S) (text : List ℕ) → Observes Shows stat window first k s text →
-      (records : List Rec) × IsAfter Cycle first k s records × (length records ≡ k)
+module _ {S : Type 0} (path : SequentialPath S) (cycle_text : CycleText S) (v : Variant) (terms : List Term) where
+  one : (s : S) (lines : List ℕ) (t : S) → is_aok (path.stat s) ≡ true → Shows path cycle_text v terms s lines t → (r : Rec) × IsCycle path v terms s (Some r) t
+  one s lines t going h = (path.told s h.0, record { ended = λ over. absurd (false≢true (sym over ∙ going)); goes = λ _. (h.0, h.1, h.3, refl) })
+
+  the_run : (window : CycleRange) (first : S) (k : ℕ) (s : S) (text : List ℕ) → Observes (Shows path cycle_text v terms) path.stat window first k s text →
+      (records : List Rec) × RunFrom path v terms first k s records × (length records ≡ k)
   the_run window first zero s text h = ([], (h.0, refl), refl)
   the_run window first (suc k) s text h =
       let before = the_run window first k h.0 h.1 h.3 in
       let cycle = one h.0 h.2 s h.4 h.5 in
       (before.0 ++ (cycle.0 ∷ []), (h.0, before.0, Some cycle.0, before.1, cycle.1, refl), longer before.0 cycle.0 k before.2)
 
-seq_one : (v : Variant) (terms : List Term) (s : Machine) (lines : List ℕ) (t : Machine) → is_aok s.stat ≡ true → SeqShows v terms s lines t →
-    (r : Rec) × IsSeqCycle v terms s (Some r) t
-seq_one v terms s lines t going h =
-    (seq_record s h.0, record { ended = λ over. absurd (grind (arith, over, going)); goes = λ _. (h.0, h.1, h.3, refl) })
-
-plus_one : (v : Variant) (terms : List Term) (s : PlusState) (lines : List ℕ) (t : PlusState) → is_aok s.stat ≡ true → PlusShows v terms s lines t →
-    (r : Rec) × IsPlusCycle v terms s (Some r) t
-plus_one v terms s lines t going h =
-    (plus_record s h.0, record { ended = λ over. absurd (grind (arith, over, going)); goes = λ _. (h.0, h.1, h.3, refl) })
-
-pub seq_watches_the_run : SeqWatchesTheRun
-seq_watches_the_run v terms window image k s text h =
-    the_run (SeqShows v terms) (IsSeqCycle v terms) seq_stat (seq_one v terms) window (start image) k s text h
-
-pub plus_watches_the_run : PlusWatchesTheRun
-plus_watches_the_run v terms window image k s text h =
-    the_run (PlusShows v terms) (IsPlusCycle v terms) plus_stat (plus_one v terms) window (plus_start image) k s text h
+pub watches_the_run : {S : Type 0} (path : SequentialPath S) (cycle_text : CycleText S) → WatchesTheRun path cycle_text
+watches_the_run path cycle_text v terms window image k s text h = the_run path cycle_text v terms window (path.start image) k s text h

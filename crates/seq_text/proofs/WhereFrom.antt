@@ -17,7 +17,7 @@ seq_sources_told =
       aluB = λ v terms s f id solves e. solves seq.aluB ∙ value_of_source f id (slice_get terms 10) e;
       mem_addr = λ v terms s f id solves e. solves seq.mem_addr ∙ value_of_source f id (slice_get terms 13) e;
       mem_data = λ v terms s f id solves e. solves seq.mem_data ∙ value_of_source f id (slice_get terms 16) e;
-      new_pc = λ v terms s f id solves e. solves seq.new_pc ∙ value_of_source f id (slice_get terms 18) e;
+      next_pc = λ v terms s f id solves e. solves seq.new_pc ∙ value_of_source f id (slice_get terms 18) e;
     }
 
 pub plus_sources_told : PlusSources
@@ -28,5 +28,5 @@ plus_sources_told =
       aluB = λ v terms s f id solves e. solves plus.aluB ∙ value_of_source f id (slice_get terms 11) e;
       mem_addr = λ v terms s f id solves e. solves plus.mem_addr ∙ value_of_source f id (slice_get terms 14) e;
       mem_data = λ v terms s f id solves e. solves plus.mem_data ∙ value_of_source f id (slice_get terms 17) e;
-      pc = λ v terms s f id solves e. solves plus.pc ∙ value_of_source f id (slice_get terms 0) e;
+      next_pc = λ v terms s f id solves e. solves plus.pc ∙ value_of_source f id (slice_get terms 0) e;
     }

@@ -4,37 +4,37 @@ use Rattle.std.specs.List.{AllByRecursion}
 use Rattle.y86_base.specs.Image.{word_at}
 use Rattle.y86_base.specs.declared.parts.Variant.{Variant}
 use Rattle.y86_isa.specs.Blocks.{stored}
-use Rattle.y86_isa.specs.Machine.{start}
-use Rattle.y86_isa.specs.declared.machine.Machine.{Machine}
 use Rattle.y86_isa.specs.declared.machine.Rec.{Rec}
 use Rattle.y86_isa.specs.declared.machine.Store.{Store}
 use Rattle.hcl_types.specs.declared.term.Term.{Term}
-use Rattle.dp_signals.specs.SeqNames as seq
-use Rattle.dp_sequential.specs.Seq.{SeqRun, SeqSolves, seq_next}
-use Rattle.seq_plus.specs.PlusCycle.{plus_next}
-use Rattle.seq_plus.specs.PlusEquations.{PlusSolves}
-use Rattle.seq_plus.specs.PlusNames as plus
-use Rattle.seq_plus.specs.PlusRun.{PlusRun, plus_start}
-use Rattle.seq_plus.specs.declared.state.PlusState.{PlusState}
+use Rattle.dp_signals.specs.SeqNames as seq_row
+use Rattle.dp_signals.specs.SequentialRows.{seq}
+use Rattle.dp_signals.specs.declared.sequential_rows.SignalRows.{SignalRows}
+use Rattle.dp_sequential.specs.Path.{RunFrom, SequentialPath, Solves}
+use Rattle.dp_sequential.specs.Seq.{seq_path}
+use Rattle.seq_plus.specs.PlusNames.{plus}
+use Rattle.seq_plus.specs.PlusRun.{plus_path}
 use Rattle.pipe_stage_text.specs.Changes.{IsOfRegister, after_writes}
 use Rattle.pipe_stage_text.specs.Sources.{name_picked}
 use Rattle.pipe_stage_text.specs.declared.observer.CycleRange.{CycleRange}
 use Rattle.seq_text.specs.Lines.{told_store, told_writes}
 use Rattle.seq_text.specs.Signals.{plus_signals, seq_signals}
-use Rattle.seq_text.specs.Observer.{PlusShows, SeqShows, Observes, plus_stat, seq_stat}
+use Rattle.seq_text.specs.Observer.{CycleText, Observes, Shows, plus_cycle_text, seq_cycle_text}
 use Rattle.seq_text.specs.declared.signals.Signals.{Signals}
 
 -- ---- the run
 
+abbrev pub WatchesTheRun : {S : Type 0} → SequentialPath S → CycleText S → Type 0
+WatchesTheRun {S} path cycle_text =
+    (v : Variant) (terms : List Term) (window : CycleRange) (image : List ℕ) (k : ℕ) (s : S) (text : List ℕ) →
+    Observes (Shows path cycle_text v terms) path.stat window (path.start image) k s text →
+    (records : List Rec) × RunFrom path v terms (path.start image) k s records × (length records ≡ k)
+
 abbrev pub SeqWatchesTheRun : Type 0
-SeqWatchesTheRun =
-    (v : Variant) (terms : List Term) (window : CycleRange) (image : List ℕ) (k : ℕ) (s : Machine) (text : List ℕ) →
-    Observes (SeqShows v terms) seq_stat window (start image) k s text → (records : List Rec) × SeqRun v terms image k s records × (length records ≡ k)
+SeqWatchesTheRun = WatchesTheRun seq_path seq_cycle_text
 
 abbrev pub PlusWatchesTheRun : Type 0
-PlusWatchesTheRun =
-    (v : Variant) (terms : List Term) (window : CycleRange) (image : List ℕ) (k : ℕ) (s : PlusState) (text : List ℕ) →
-    Observes (PlusShows v terms) plus_stat window (plus_start image) k s text → (records : List Rec) × PlusRun v terms image k s records × (length records ≡ k)
+PlusWatchesTheRun = WatchesTheRun plus_path plus_cycle_text
 
 -- ---- registers and memory
 
@@ -45,36 +45,33 @@ pub record TellsChanges (registers memory : List ℕ) (signals : Signals) (regis
   pub in_memory : memory_after ≡ stored memory (told_store signals)
   pub inside : (store : Store) → told_store signals ≡ Some store → is_some (word_at memory store.addr) ≡ true
 
+abbrev pub EachCycleTellsChanges : {S : Type 0} → SequentialPath S → ((ℕ → ℕ) → Signals) → Type 0
+EachCycleTellsChanges {S} path signals =
+    (v : Variant) (terms : List Term) (s : S) (f : ℕ → ℕ) → Solves path v terms s f →
+    TellsChanges (path.regs s) (path.mem s) (signals f) (path.regs (path.next s f)) (path.mem (path.next s f))
+
 abbrev pub SeqTellsChanges : Type 0
-SeqTellsChanges =
-    (v : Variant) (terms : List Term) (s : Machine) (f : ℕ → ℕ) → SeqSolves v terms s f →
-    TellsChanges s.regs s.mem (seq_signals f) (seq_next s f).regs (seq_next s f).mem
+SeqTellsChanges = EachCycleTellsChanges seq_path seq_signals
 
 abbrev pub PlusTellsChanges : Type 0
-PlusTellsChanges =
-    (v : Variant) (terms : List Term) (s : PlusState) (f : ℕ → ℕ) → PlusSolves v terms s f →
-    TellsChanges s.regs s.mem (plus_signals f) (plus_next s f).regs (plus_next s f).mem
+PlusTellsChanges = EachCycleTellsChanges plus_path plus_signals
 
 -- ---- sources: a signal has the value of the name that its definition picks
 
-abbrev pub SeqSource : ℕ → Type 0
-SeqSource signal =
-    (v : Variant) (terms : List Term) (s : Machine) (f : ℕ → ℕ) (id : ℕ) → SeqSolves v terms s f → name_picked seq.icode terms f signal ≡ Some id → f signal ≡ f id
+abbrev pub HasSource : {S : Type 0} → SequentialPath S → ℕ → Type 0
+HasSource {S} path signal =
+    (v : Variant) (terms : List Term) (s : S) (f : ℕ → ℕ) (id : ℕ) → Solves path v terms s f → name_picked path.first terms f signal ≡ Some id → f signal ≡ f id
 
-abbrev pub PlusSource : ℕ → Type 0
-PlusSource signal =
-    (v : Variant) (terms : List Term) (s : PlusState) (f : ℕ → ℕ) (id : ℕ) → PlusSolves v terms s f → name_picked plus.pc terms f signal ≡ Some id → f signal ≡ f id
+-- pc is the signal to which the PC is set: new_pc of SEQ, and pc of SEQ+
+pub record HaveSources {S : Type 0} (path : SequentialPath S) (rows : SignalRows) (pc : ℕ) : Type 0 where
+  pub aluA : HasSource path rows.alu_a
+  pub aluB : HasSource path rows.alu_b
+  pub mem_addr : HasSource path rows.mem_addr
+  pub mem_data : HasSource path rows.mem_data
+  pub next_pc : HasSource path pc
 
-pub record SeqSources : Type 0 where
-  pub aluA : SeqSource seq.aluA
-  pub aluB : SeqSource seq.aluB
-  pub mem_addr : SeqSource seq.mem_addr
-  pub mem_data : SeqSource seq.mem_data
-  pub new_pc : SeqSource seq.new_pc
+abbrev pub SeqSources : Type 0
+SeqSources = HaveSources seq_path seq seq_row.new_pc
 
-pub record PlusSources : Type 0 where
-  pub aluA : PlusSource plus.aluA
-  pub aluB : PlusSource plus.aluB
-  pub mem_addr : PlusSource plus.mem_addr
-  pub mem_data : PlusSource plus.mem_data
-  pub pc : PlusSource plus.pc
+abbrev pub PlusSources : Type 0
+PlusSources = HaveSources plus_path plus plus.pc

@@ -3,10 +3,9 @@ ghost use Rattle.std.specs.Prelude.{◌≡◌, IfOk};
 ghost use Rattle.hcl_types.specs.Tables.{IsSound};
 ghost use Rattle.seq_plus.specs.Datapaths.{table_rows};
 
-use dp_signals::{law_of_tables, pipe_table, seq_table};
+use dp_signals::{law_of_tables, pipe_table};
 use fault_report::Tables;
-use hcl_types::{Datapath, Table};
-use seq_plus::{law_of_table, plus_table};
+use hcl_types::{Datapath, SequentialDatapath, Table};
 use std::alloc::Global;
 use y86_base::Memory;
 
@@ -16,10 +15,9 @@ pub fn table_of(alloc: Global, path: Datapath) -> Result<Table, Memory>
     ensures sound { IfOk result (λ table. IsSound table.rows) }
 {
     law_of_tables();
-    law_of_table();
     match path {
-        Datapath::Seq => seq_table(alloc),
-        Datapath::SeqPlus => plus_table(alloc),
+        Datapath::Seq => seq_plus::table_of(alloc, SequentialDatapath::Seq),
+        Datapath::SeqPlus => seq_plus::table_of(alloc, SequentialDatapath::SeqPlus),
         Datapath::Pipe => pipe_table(alloc),
     }
 }

@@ -1,20 +1,22 @@
 use Rattle.std.proofs.Common.{◌∙◌}
-use Rattle.cli_runs.proofs.SeqRuns.{seq_one_size, seq_part, seq_whole}
+use Rattle.hcl_types.specs.declared.table.SequentialDatapath.TheVariants as datapath
+use Rattle.cli_runs.proofs.SequentialRuns.{one_size, part, seq_run, whole}
 use Rattle.cli_runs.proofs.ssim.run_seq.Goals as goal
 
 pub report-requires : goal.report-requires
 report-requires g c =
     let ran = c.run-ran.ensures.calls in
-    record { one_size = seq_one_size _ _ _ _ _ _ _ ran.0 _ _ c.in-Ok.ensures c.new-machine.ensures ran.1 (c.of-end.ensures ∙ c.state.ensures) }
+    let it = seq_run _ _ _ _ _ _ _ ran.0 _ _ _ c.in-Ok.ensures c.new-machine.ensures ran.1 ran.2 (c.of-end.ensures ∙ c.state.ensures) in
+    record { one_size = one_size datapath.Seq _ _ _ _ _ _ _ it }
 
 pub returns-in-Ok-report : goal.returns-in-Ok-report
 returns-in-Ok-report g c =
     let ran = c.run-ran.ensures.calls in
-    seq_whole _ _ _ _ _ _ _ ran.0 _ _ _ _ _ _ c.in-Ok.ensures c.new-machine.ensures ran.1 ran.2 (c.of-end.ensures ∙ c.state.ensures)
-    c.status.ensures.status c.status.ensures.low c.in-Ok-report.ensures.puts c.in-Ok-report.ensures.counts.no_fault_at_ok
+    let it = seq_run _ _ _ _ _ _ _ ran.0 _ _ _ c.in-Ok.ensures c.new-machine.ensures ran.1 ran.2 (c.of-end.ensures ∙ c.state.ensures) in
+    whole datapath.Seq _ _ _ _ _ _ _ it _ _ _ c.status.ensures.status c.status.ensures.low c.in-Ok-report.ensures.puts c.in-Ok-report.ensures.counts.no_fault_at_ok
 
 pub returns : goal.returns
 returns g c =
     let ran = c.run-ran.ensures.calls in
-    seq_part _ _ _ _ _ _ _ ran.0 _ _ _ _ _ c.in-Ok.ensures c.new-machine.ensures ran.1 ran.2 (c.of-end.ensures ∙ c.state.ensures)
-    c.in-Err.ensures.puts c.in-Err.ensures.counts.one_fault_at_err
+    let it = seq_run _ _ _ _ _ _ _ ran.0 _ _ _ c.in-Ok.ensures c.new-machine.ensures ran.1 ran.2 (c.of-end.ensures ∙ c.state.ensures) in
+    part datapath.Seq _ _ _ _ _ _ _ it _ _ c.in-Err.ensures.puts c.in-Err.ensures.counts.one_fault_at_err
