@@ -35,11 +35,8 @@ impl Sequential for SeqState {
     #[inline(always)]
     fn view(&self, pc: u64) -> End<'_> {
         End {
-            regs: &self.regs,
-            flags: self.flags,
             pc,
-            stat: self.stat,
-            mem: &self.mem,
+            ..End::of(self)
         }
     }
 
