@@ -1,3 +1,4 @@
 pub mod Rising
+pub mod Refuted
 pub mod Requirements
 pub mod Findings
