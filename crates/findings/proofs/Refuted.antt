@@ -1,10 +1,31 @@
 -- Refutations, from one obligation to the next that is false somewhere.
-use Rattle.std.proofs.Common.{◌≡◌, ℕ, ◌<◌, ◌≤◌, ◌==◌, ◌++◌, inl, inr, ◌⊎◌, Bool, false, List, [], ◌∷◌, sym, ◌∙◌, arith}
-use Rattle.std.proofs.lemmas.Bool.{false≢true, cases_lt}
+use Rattle.std.proofs.Common.{◌≡◌, ℕ, ◌<◌, ◌≤◌, ◌==◌, ◌++◌, ◌||◌, inl, inr, ◌⊎◌, Bool, true, false, List, [], ◌∷◌, refl, sym, ◌∙◌, arith}
+use Rattle.std.proofs.lemmas.Bool.{false≢true, cases_lt, eq-eqb, or_parts}
+use Rattle.hcl_types.specs.Lists.{some}
 use Rattle.hcl_types.proofs.Each.{each_both}
-use Rattle.findings.specs.Refuted.{AreAllRefuted, is_refuted}
-use Rattle.findings.proofs.EachMet.{is_own, none_of}
-use Rattle.findings.proofs.Rising.{rise_by, rise_on}
+use Rattle.findings.specs.Refuted.{AreAllRefuted, RiseWithin, is_refuted}
+
+-- the last number is at most a higher bound, too
+rise_on : {A : Type 0} (number : A → ℕ) (low high higher : ℕ) (xs : List A) → high ≤ higher → RiseWithin number low high xs → RiseWithin number low higher xs
+rise_on number low high higher [] le rise = omega arith
+rise_on number low high higher (x ∷ xs) le (above, rest) = (above, rise_on number (number x) high higher xs le rest)
+
+-- another number at the end, above the bound
+rise_by : {A : Type 0} (number : A → ℕ) (low high until : ℕ) (xs : List A) (x : A) → number x ≡ until → high < until → RiseWithin number low high xs → RiseWithin number low until (xs ++ x ∷ [])
+rise_by number low high until [] x is lt rise = (omega arith, omega arith)
+rise_by number low high until (y ∷ ys) x is lt (above, rest) = (above, rise_by number (number y) high until ys x is lt rest)
+
+neither : (a b : Bool) → a ≡ false → b ≡ false → (a || b) ≡ false
+neither true b e f = cc
+neither false b e f = f
+
+-- no element passes a test, nor does another at the end
+none_of : {A : Type 0} (f : A → Bool) (xs : List A) (x : A) → some f (xs ++ x ∷ []) ≡ false → (some f xs ≡ false) × (f x ≡ false)
+none_of f [] x e = (refl, (or_parts (f x) false e).0)
+none_of f (y ∷ ys) x e =
+    let here = or_parts (f y) (some f (ys ++ x ∷ [])) e in
+    let rest = none_of f ys x here.1 in
+    (neither (f y) (some f ys) here.0 rest.0, rest.1)
 
 module _ {A : Type 0} (rule : A → ℕ) (IsRefutation : A → Type 0) (Holds : ℕ → Type 0) where
   abbrev Refuted : ℕ → List A → Type 0
@@ -26,7 +47,7 @@ module _ {A : Type 0} (rule : A → ℕ) (IsRefutation : A → Type 0) (Holds : 
       by i l le none (inr before) = told.others i l before none.0
       by i l le none (inl behind) = elim (cases_lt i until) [
         | inl before ↦ between i behind before
-        | inr ge ↦ absurd (false≢true (sym none.1 ∙ is_own (rule x) until i is (omega (arith, le, ge))))
+        | inr ge ↦ absurd (false≢true (sym none.1 ∙ eq-eqb (rule x) i (omega (arith, is, le, ge))))
       ]
 
   -- none that follows up to a higher number is false anywhere

@@ -1,8 +1,13 @@
 -- The obligations that are false somewhere, in the order of their numbers.
-use Rattle.std.specs.Prelude.{ℕ, ◌≡◌, ◌≤◌, ◌==◌, Bool, false, List}
+use Rattle.std.specs.Prelude.{ℕ, ◌≡◌, ◌≤◌, ◌<◌, ◌==◌, Bool, false, List, [], ◌∷◌}
 use Rattle.std.specs.List.{AllByRecursion}
 use Rattle.hcl_types.specs.Lists.{some}
-use Rattle.findings.specs.Rising.{RiseWithin}
+
+-- Each number is above the one before it. The first is above `low`, and the last is at most `high`: so no number occurs
+-- twice.
+abbrev pub RiseWithin : {A : Type 0} → (A → ℕ) → ℕ → ℕ → List A → Type 0
+RiseWithin number low high [] = low ≤ high
+RiseWithin number low high (x ∷ xs) = (low < number x) × RiseWithin number (number x) high xs
 
 -- whether obligation i is among those that are refuted
 abbrev pub is_refuted : {A : Type 0} → (A → ℕ) → ℕ → List A → Bool
