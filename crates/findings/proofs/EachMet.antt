@@ -1,9 +1,7 @@
--- Lists of requirements that are met one by one, and lists of which no element passes a test.
-use Rattle.std.proofs.Common.{◌≡◌, ℕ, Bool, true, false, not, ◌&&◌, ◌||◌, ◌==◌, List, [], ◌∷◌, ◌++◌, map, Option, Some, None, if◌then◌else◌, refl, sym, ap, ◌∙◌, subst, arith}
-use Rattle.std.proofs.lemmas.Bool.Decides.{nat_tests}
-use Rattle.std.proofs.lemmas.Bool.{or_parts}
+-- Lists of requirements that are met one by one.
+use Rattle.std.proofs.Common.{◌≡◌, ℕ, Bool, true, false, not, ◌&&◌, ◌||◌, List, [], ◌∷◌, ◌++◌, map, Option, Some, None, if◌then◌else◌, refl, sym, ap, ◌∙◌, subst}
 use Rattle.std.proofs.Math.Bool.{and_assoc}
-use Rattle.hcl_types.specs.Lists.{IsApart, each, some}
+use Rattle.hcl_types.specs.Lists.{IsApart, each}
 use Rattle.hcl_types.specs.Tables.{IsOrderOf}
 use Rattle.hcl_types.specs.declared.table.Row.{Row}
 use Rattle.hcl_types.specs.declared.term.Term.{Term}
@@ -66,20 +64,3 @@ pub atoms_given : (rows : List Row) (terms : List Term) (ids : List ℕ) (atoms 
 atoms_given rows terms ids atoms first w order are =
     let found = leaves_exist rows terms ids order in
     given_atoms atoms first w (subst IsApart (sym (are.are found.0 found.1)) (apart found.0 terms))
-
--- ---- lists of which no element passes a test
-
-neither : (a b : Bool) → a ≡ false → b ≡ false → (a || b) ≡ false
-neither true b e f = cc
-neither false b e f = f
-
--- no element of a longer list passes
-pub none_of : {A : Type 0} (f : A → Bool) (xs : List A) (x : A) → some f (xs ++ x ∷ []) ≡ false → (some f xs ≡ false) × (f x ≡ false)
-none_of f [] x e = (refl, (or_parts (f x) false e).0)
-none_of f (y ∷ ys) x e =
-    let here = or_parts (f y) (some f (ys ++ x ∷ [])) e in
-    let rest = none_of f ys x here.1 in
-    (neither (f y) (some f ys) here.0 rest.0, rest.1)
-
-pub is_own : (m n i : ℕ) → m ≡ n → i ≡ n → (m == i) ≡ true
-is_own m n i e f = let same : m ≡ i = e ∙ sym f in grind (arith, nat_tests, same)

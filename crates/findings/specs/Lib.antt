@@ -1,3 +1,3 @@
-pub mod Rising
+pub mod Refuted
 pub mod Requirements
 pub mod Findings

@@ -1,13 +1,11 @@
 -- From the decisions on a file's rules to refutations.
-use Rattle.std.proofs.Common.{◌≡◌, ℕ, ◌+◌, ◌-◌, ◌<◌, ◌≤◌, ◌==◌, ◌++◌, inl, inr, ◌⊎◌, Bool, true, false, List, [], ◌∷◌, length, drop, get_or, slice_get, None, Some, sym, ap, ◌∙◌, subst, arith}
-use Rattle.std.proofs.lemmas.Bool.{false≢true, cases_lt}
+use Rattle.std.proofs.Common.{◌≡◌, ℕ, ◌+◌, ◌-◌, ◌<◌, ◌≤◌, ◌++◌, inl, inr, Bool, false, List, [], ◌∷◌, length, drop, get_or, slice_get, None, Some, sym, ap, ◌∙◌, subst, arith}
+use Rattle.std.proofs.lemmas.Bool.{cases_lt}
 use Rattle.std.proofs.lemmas.List.{get_or_past}
 use Rattle.std.proofs.lemmas.Option.{slice_get-get_or, slice_get_within}
 use Rattle.y86_base.specs.declared.parts.Variant.{Variant}
 use Rattle.nets.specs.Nets.{Gates}
-use Rattle.findings.proofs.EachMet.{is_own, none_of}
-use Rattle.findings.proofs.Rising.{rise_by, rise_on}
-use Rattle.hcl_types.proofs.Each.{each_both}
+use Rattle.findings.proofs.Refuted as refuted
 use Rattle.hcl_types.specs.Tables.{IsOrderOf}
 use Rattle.hcl_types.specs.declared.term.Term.{Term}
 use Rattle.dp_signals.specs.PipeTable.{pipe_rows}
@@ -29,7 +27,7 @@ use Rattle.ctl_verdicts.proofs.Decided.{no_rule}
 use Rattle.control_check.proofs.PipeVerdict.{everywhere}
 use Rattle.control_check.proofs.Tails.{from_drop}
 use Rattle.pipe_diagnosis.specs.Diagnosis.{Fails}
-use Rattle.pipe_refusals.specs.Answered.{AreRefuted, IsLeast, IsRefutation, is_refuted}
+use Rattle.pipe_refusals.specs.Answered.{AreRefuted, IsLeast, IsRefutation}
 use Rattle.pipe_diagnosis.specs.declared.refusal.Refutation.{Refutation}
 
 module _ (v : Variant) (terms : List Term) (s : Settings) (net : Gates) (list : List Rule) (rules : AreRules v terms s net list) where
@@ -98,32 +96,27 @@ module _ (v : Variant) (terms : List Term) (s : Settings) (net : Gates) (list : 
         subst (λ (xs : List Atom). Everywhere v xs (PipeControls terms) (obligation v s xs i)) same_atoms
         (subst (λ n. Everywhere v rules.atoms (PipeControls terms) (obligation v s rules.atoms n)) number own)
 
+    abbrev Holds : ℕ → Type 0
+    Holds i = Everywhere v atoms (PipeControls terms) (obligation v s atoms i)
+
     pub none_refuted : AreRefuted v terms s atoms 0 []
-    none_refuted = record { each = tt; rising = omega arith; others = λ i l h e. absurd (omega (arith, l, h)) }
+    none_refuted = refuted.none_refuted (λ (y : Refutation). y.rule) (IsRefutation v terms s atoms) Holds
 
     -- one more is false somewhere, and those between it and the last are not
     pub one_more : (from : ℕ) (failure : FailedRule) (all : List Refutation) (x : Refutation) → IsRuleDecision net (drop from list) (Some failure) → x.rule ≡ failure.rule →
         IsRefutation v terms s atoms x → AreRefuted v terms s atoms from all → AreRefuted v terms s atoms failure.rule (all ++ x ∷ [])
-    one_more from failure all x h is own told = record {
-      each = each_both (IsRefutation v terms s atoms) all (x ∷ []) told.each (own, tt);
-      rising = rise_by (λ (y : Refutation). y.rule) 0 from failure.rule all x is (next_rule from failure h) told.rising;
-      others = λ i l le none. by i l le (none_of (λ (y : Refutation). y.rule == i) all x none) (cases_lt from i);
-    }
+    one_more from failure all x h is own told =
+        refuted.one_more (λ (y : Refutation). y.rule) (IsRefutation v terms s atoms) Holds from failure.rule all x (next_rule from failure h) is own between told
       where
-        by : (i : ℕ) → 1 ≤ i → i ≤ failure.rule → (is_refuted i all ≡ false) × ((x.rule == i) ≡ false) → (from < i) ⊎ (i ≤ from) → Everywhere v atoms (PipeControls terms) (obligation v s atoms i)
-        by i l le none (inr before) = told.others i l before none.0
-        by i l le none (inl behind) = elim (cases_lt i failure.rule) [
-          | inl lt ↦ holds_at i l (let inside = within_list from failure h in omega (arith, le, inside))
-              (λ r at. let p = place from failure h in let e : i - 1 ≡ from + (i - 1 - from) = omega (arith, behind, l) in
-              (h.2).earlier (i - 1 - from) r (omega (arith, p, lt, behind)) (from_drop list from (i - 1 - from) ∙ (ap (slice_get list) (sym e) ∙ at)))
-          | inr ge ↦ absurd (false≢true (sym none.1 ∙ is_own x.rule failure.rule i is (omega (arith, le, ge))))
-        ]
+        between : (i : ℕ) → from < i → i < failure.rule → Holds i
+        between i behind before = holds_at i (omega (arith, behind)) (let inside = within_list from failure h in omega (arith, before, inside))
+            (λ r at. let p = place from failure h in let e : i - 1 ≡ from + (i - 1 - from) = omega (arith, behind) in
+            (h.2).earlier (i - 1 - from) r (omega (arith, p, before, behind)) (from_drop list from (i - 1 - from) ∙ (ap (slice_get list) (sym e) ∙ at)))
 
     -- all that is left holds
     pub rest_holds : (from : ℕ) (all : List Refutation) → from ≤ length list → IsRuleDecision net (drop from list) None → AreRefuted v terms s atoms from all → AreRefuted v terms s atoms (length list) all
-    rest_holds from all inside h told = record { each = told.each; rising = rise_on (λ (y : Refutation). y.rule) 0 from (length list) all inside told.rising; others = λ i l le none. by i l le none (cases_lt from i) }
+    rest_holds from all inside h told = refuted.others_hold (λ (y : Refutation). y.rule) (IsRefutation v terms s atoms) Holds from (length list) all inside follow told
       where
-        by : (i : ℕ) → 1 ≤ i → i ≤ length list → is_refuted i all ≡ false → (from < i) ⊎ (i ≤ from) → Everywhere v atoms (PipeControls terms) (obligation v s atoms i)
-        by i l le none (inr before) = told.others i l before none
-        by i l le none (inl behind) = holds_at i l le (λ r at. let e : i - 1 ≡ from + (i - 1 - from) = omega (arith, behind, l) in
+        follow : (i : ℕ) → from < i → i ≤ length list → Holds i
+        follow i behind le = holds_at i (omega (arith, behind)) le (λ r at. let e : i - 1 ≡ from + (i - 1 - from) = omega (arith, behind) in
             h (i - 1 - from) r (from_drop list from (i - 1 - from) ∙ (ap (slice_get list) (sym e) ∙ at)))

@@ -1,9 +1,7 @@
 -- The answer on a file for PIPE: the verdict, and for a refusal each obligation that is false somewhere, with its
 -- least counterexample.
-use Rattle.std.specs.Prelude.{ℕ, ◌+◌, ◌≡◌, ◌≤◌, ◌<◌, ◌==◌, Bool, true, false, List, ◌∷◌, get_or, length}
-use Rattle.std.specs.List.{AllByRecursion}
+use Rattle.std.specs.Prelude.{ℕ, ◌+◌, ◌≡◌, ◌≤◌, ◌<◌, Bool, true, false, List, ◌∷◌, get_or, length}
 use Rattle.y86_base.specs.declared.parts.Variant.{Variant}
-use Rattle.hcl_types.specs.Lists.{some}
 use Rattle.hcl_types.specs.declared.term.Term.{Term}
 use Rattle.dp_signals.specs.PipeTable.{pipe_rows}
 use Rattle.ctl_atoms.specs.Atoms.{AreAtoms}
@@ -13,7 +11,7 @@ use Rattle.pipe_motion.specs.declared.settings.Settings.{Settings}
 use Rattle.pipe_obligations.specs.Rules.{obligation, rule_count}
 use Rattle.pipe_obligations.specs.FileSettings.{Everywhere, IsFalseAt, PipeControls}
 use Rattle.control_check.specs.PipeVerdicts.{AcceptsPipe, AreSettings, RejectsPipe}
-use Rattle.findings.specs.Rising.{RiseWithin}
+use Rattle.findings.specs.Refuted.{AreAllRefuted}
 use Rattle.pipe_diagnosis.specs.Diagnosis.{IsDiagnosis}
 use Rattle.pipe_refusals.specs.declared.answer.PipeAnswer.{PipeAnswer}
 use Rattle.pipe_refusals.specs.declared.answer.PipeAnswer.TheVariants.{Yes, No}
@@ -35,15 +33,9 @@ pub record IsRefutation (v : Variant) (terms : List Term) (s : Settings) (atoms 
   pub least : IsLeast v terms s atoms x.rule x.valuation.bits
   pub diagnosis : IsDiagnosis v terms s atoms x.rule x.valuation.bits x.diagnosis
 
--- whether obligation i is among those that are refuted
-abbrev pub is_refuted : ℕ → List Refutation → Bool
-is_refuted i all = some (λ (x : Refutation). x.rule == i) all
-
--- Of the obligations from 1 to `until` exactly these are false somewhere. Each occurs once, and they are in the order of their numbers.
-pub record AreRefuted (v : Variant) (terms : List Term) (s : Settings) (atoms : List Atom) (until : ℕ) (all : List Refutation) : Type 0 where
-  pub each : AllByRecursion (IsRefutation v terms s atoms) all
-  pub rising : RiseWithin (λ (x : Refutation). x.rule) 0 until all
-  pub others : (i : ℕ) → 1 ≤ i → i ≤ until → is_refuted i all ≡ false → Everywhere v atoms (PipeControls terms) (obligation v s atoms i)
+-- exactly these of the obligations from 1 to `until` are false somewhere
+abbrev pub AreRefuted : Variant → List Term → Settings → List Atom → ℕ → List Refutation → Type 0
+AreRefuted v terms s atoms = AreAllRefuted (λ (x : Refutation). x.rule) (IsRefutation v terms s atoms) (λ i. Everywhere v atoms (PipeControls terms) (obligation v s atoms i))
 
 pub record IsRefusal (v : Variant) (terms : List Term) (r : Refusal) : Type 0 where
   pub settings : AreSettings v terms r.settings

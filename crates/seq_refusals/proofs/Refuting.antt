@@ -1,18 +1,15 @@
 -- From the decisions on the rules of a sequential datapath to refutations.
-use Rattle.std.proofs.Common.{◌≡◌, ℕ, zero, suc, ◌+◌, ◌-◌, ◌<◌, ◌≤◌, ◌==◌, ◌++◌, inl, inr, ◌⊎◌, Bool, true, false, List, [], ◌∷◌, length, get_or, slice_get, None, Some, refl, sym, ap, ◌∙◌, subst, arith}
-use Rattle.std.proofs.lemmas.Bool.{false≢true, cases_lt}
+use Rattle.std.proofs.Common.{◌≡◌, ℕ, zero, suc, ◌+◌, ◌-◌, ◌<◌, ◌≤◌, ◌++◌, Bool, false, List, [], ◌∷◌, length, get_or, slice_get, None, Some, refl, sym, ap, ◌∙◌, subst, arith}
 use Rattle.std.proofs.lemmas.Option.{slice_get-get_or, slice_get_within, same_Some}
 use Rattle.y86_base.specs.declared.parts.Variant.{Variant}
 use Rattle.nets.specs.Nets.{Gates, truth}
-use Rattle.hcl_types.proofs.Each.{each_both}
 use Rattle.hcl_types.specs.Tables.{IsOrderOf}
 use Rattle.hcl_types.specs.declared.term.Term.{Term}
 use Rattle.ctl_atoms.specs.declared.leaf.Atom.{Atom}
 use Rattle.ctl_atoms.specs.Atoms.{AreAtoms}
 use Rattle.ctl_atoms.proofs.Solved.{atoms_one}
 use Rattle.net_fields.specs.FieldSpecs.{total}
-use Rattle.findings.proofs.EachMet.{is_own, none_of}
-use Rattle.findings.proofs.Rising.{rise_by, rise_on}
+use Rattle.findings.proofs.Refuted as refuted
 use Rattle.bdd_decide.specs.Decisions.{IsAlwaysTrue, IsLeastOf}
 use Rattle.ctl_rules.specs.declared.rules.Rule.{Rule}
 use Rattle.seq_obligations.specs.Obligations.{rule_count}
@@ -28,7 +25,7 @@ use Rattle.seq_check.specs.Rules.{AreRulesOf}
 use Rattle.hcl_types.specs.declared.table.SequentialDatapath.{SequentialDatapath}
 use Rattle.seq_diagnosis.specs.Diagnosis as diagnosis
 use Rattle.seq_diagnosis.specs.declared.refusal.Refutation.{Refutation}
-use Rattle.seq_refusals.specs.Answered.{AreRefuted, Everywhere, IsRefutation, is_refuted}
+use Rattle.seq_refusals.specs.Answered.{AreRefuted, Everywhere, IsRefutation}
 use Rattle.seq_refusals.specs.Failures.{IsFailure}
 
 -- obligation i alone
@@ -162,32 +159,22 @@ module _ (which : SequentialDatapath) (v : Variant) (terms : List Term) (net : G
 
     -- the next rule is true everywhere
     pub next_holds : (k : ℕ) (all : List Refutation) (r : Rule) → slice_get list k ≡ Some r → IsAlwaysTrue net r.gate → Refuted k all → Refuted (k + 1) all
-    next_holds k all r at always told = record { each = told.each; rising = rise_on (λ (y : Refutation). y.rule) 0 k (k + 1) all (omega arith) told.rising; others = λ i l le none. by i l le none (cases_lt k i) }
-      where
-        by : (i : ℕ) → 1 ≤ i → i ≤ k + 1 → is_refuted i all ≡ false → (k < i) ⊎ (i ≤ k) → Everywhere which v terms i
-        by i l le none (inr before) = told.others i l before none
-        by i l le none (inl behind) = let e : k + 1 ≡ i = omega (arith, le, behind) in subst (λ (n : ℕ). Everywhere which v terms n) e (always_at k r at always)
+    next_holds k all r at always told = refuted.others_hold (λ (y : Refutation). y.rule) (IsRefutation which v terms atoms) (Everywhere which v terms) k (k + 1) all (omega arith)
+        (λ i behind le. let e : k + 1 ≡ i = omega (arith, le, behind) in subst (λ (n : ℕ). Everywhere which v terms n) e (always_at k r at always)) told
 
     -- the next rule is refuted
     pub next_refuted : (k : ℕ) (all : List Refutation) (x : Refutation) → x.rule ≡ k + 1 → IsRefutation which v terms atoms x → Refuted k all → Refuted (k + 1) (all ++ x ∷ [])
-    next_refuted k all x is it told = record {
-      each = each_both (IsRefutation which v terms atoms) all (x ∷ []) told.each (it, tt);
-      rising = rise_by (λ (y : Refutation). y.rule) 0 k (k + 1) all x is (omega arith) told.rising;
-      others = λ i l le none. by i l le (none_of (λ (y : Refutation). y.rule == i) all x none) (cases_lt k i);
-    }
-      where
-        by : (i : ℕ) → 1 ≤ i → i ≤ k + 1 → (is_refuted i all ≡ false) × ((x.rule == i) ≡ false) → (k < i) ⊎ (i ≤ k) → Everywhere which v terms i
-        by i l le none (inr before) = told.others i l before none.0
-        by i l le none (inl behind) = absurd (false≢true (sym none.1 ∙ is_own x.rule (k + 1) i is (omega (arith, le, behind))))
+    next_refuted k all x is it told = refuted.one_more (λ (y : Refutation). y.rule) (IsRefutation which v terms atoms) (Everywhere which v terms) k (k + 1) all x (omega arith) is it
+        (λ i behind before. absurd (omega (arith, behind, before))) told
 
     -- the first false rule is refuted
     pub first_refuted : (failure : FailedRule) (x : Refutation) → IsRuleDecision net list (Some failure) → x.rule ≡ failure.rule → IsRefutation which v terms atoms x → Refuted x.rule (x ∷ [])
-    first_refuted failure x d is it = record { each = (it, tt); rising = (omega (arith, number), omega (arith, number)); others = λ i l le none. by i l le none (cases_lt i x.rule) }
+    first_refuted failure x d is it = refuted.one_more (λ (y : Refutation). y.rule) (IsRefutation which v terms atoms) (Everywhere which v terms) 0 x.rule [] x (omega (arith, number)) refl it between
+        (refuted.none_refuted (λ (y : Refutation). y.rule) (IsRefutation which v terms atoms) (Everywhere which v terms))
       where
         number : x.rule ≡ d.0 + 1
         number = is ∙ (d.3 ∙ (own.each d.0 d.1 (d.2).there).number)
 
-        by : (i : ℕ) → 1 ≤ i → i ≤ x.rule → is_refuted i (x ∷ []) ≡ false → (i < x.rule) ⊎ (x.rule ≤ i) → Everywhere which v terms i
-        by i l le none (inl lt) = holds_at i l (let inside = slice_get_within list d.0 d.1 (d.2).there in omega (arith, le, number, inside))
-            (λ r at. (d.2).earlier (i - 1) r (omega (arith, lt, l, number)) at)
-        by i l le none (inr ge) = absurd (false≢true (sym (none_of (λ (y : Refutation). y.rule == i) [] x none).1 ∙ is_own x.rule x.rule i refl (omega (arith, le, ge))))
+        between : (i : ℕ) → 0 < i → i < x.rule → Everywhere which v terms i
+        between i l before = holds_at i (omega (arith, l)) (let inside = slice_get_within list d.0 d.1 (d.2).there in omega (arith, before, number, inside))
+            (λ r at. (d.2).earlier (i - 1) r (omega (arith, before, l, number)) at)

@@ -1,9 +1,7 @@
 -- The answer on a file for SEQ or SEQ+: the verdict, and for a refusal each obligation that is false somewhere, with
 -- its least counterexample.
-use Rattle.std.specs.Prelude.{ℕ, ◌+◌, ◌≡◌, ◌≤◌, ◌==◌, Bool, true, false, List, ◌∷◌, length}
-use Rattle.std.specs.List.{AllByRecursion}
+use Rattle.std.specs.Prelude.{ℕ, ◌+◌, ◌≡◌, ◌≤◌, Bool, true, false, List, ◌∷◌, length}
 use Rattle.y86_base.specs.declared.parts.Variant.{Variant}
-use Rattle.hcl_types.specs.Lists.{some}
 use Rattle.hcl_types.specs.declared.term.Term.{Term}
 use Rattle.ctl_atoms.specs.Atoms.{AreAtoms}
 use Rattle.ctl_atoms.specs.Leaves.{Assignment}
@@ -18,7 +16,7 @@ use Rattle.seq_plus.specs.Datapaths.{rows_of}
 use Rattle.seq_check.specs.Datapaths.{questions_of, spots_of}
 use Rattle.seq_check.specs.Verdicts.{Accepts, Rejects}
 use Rattle.hcl_types.specs.declared.table.SequentialDatapath.{SequentialDatapath}
-use Rattle.findings.specs.Rising.{RiseWithin}
+use Rattle.findings.specs.Refuted.{AreAllRefuted}
 use Rattle.seq_diagnosis.specs.Diagnosis.{IsDiagnosis}
 use Rattle.seq_diagnosis.specs.declared.refusal.Refusal.{Refusal}
 use Rattle.seq_diagnosis.specs.declared.refusal.Refutation.{Refutation}
@@ -38,16 +36,9 @@ pub record IsRefutation (which : SequentialDatapath) (v : Variant) (terms : List
   pub least : IsLeastOf (total (spots_of which) + length atoms) (IsFalseAtBits (questions_of which v) terms atoms x.rule) x.valuation.bits
   pub diagnosis : IsDiagnosis which v terms atoms x.rule x.valuation.bits x.diagnosis
 
--- whether obligation i is among those that are refuted
-abbrev pub is_refuted : ℕ → List Refutation → Bool
-is_refuted i all = some (λ (x : Refutation). x.rule == i) all
-
--- Exactly these of the obligations from 1 to `until` are false somewhere. Each occurs once, and they are in the order
--- of their numbers.
-pub record AreRefuted (which : SequentialDatapath) (v : Variant) (terms : List Term) (atoms : List Atom) (until : ℕ) (all : List Refutation) : Type 0 where
-  pub each : AllByRecursion (IsRefutation which v terms atoms) all
-  pub rising : RiseWithin (λ (x : Refutation). x.rule) 0 until all
-  pub others : (i : ℕ) → 1 ≤ i → i ≤ until → is_refuted i all ≡ false → Everywhere which v terms i
+-- exactly these of the obligations from 1 to `until` are false somewhere
+abbrev pub AreRefuted : SequentialDatapath → Variant → List Term → List Atom → ℕ → List Refutation → Type 0
+AreRefuted which v terms atoms = AreAllRefuted (λ (x : Refutation). x.rule) (IsRefutation which v terms atoms) (Everywhere which v terms)
 
 pub record IsRefusal (which : SequentialDatapath) (v : Variant) (terms : List Term) (r : Refusal) : Type 0 where
   pub atoms : AreAtoms (rows_of which) terms r.atoms
