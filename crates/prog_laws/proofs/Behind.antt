@@ -10,7 +10,7 @@ use Rattle.y86_isa.specs.RowTests.{accesses, next_is_branch}
 use Rattle.y86_isa.specs.Table.{rows, row, inop, no_register}
 use Rattle.net_fields.specs.AllowedNumbers.{reading_allowed, register_field_allowed, register_allowed, cnd_allowed_where, zero_unless, cnd_allowed, icode_allowed, stat_allowed, shares_register, destination_allowed}
 use Rattle.pipe_fields.specs.Layout.{Fields, FetchLine, DecodeLine, ExecuteLine, MemoryLine, WriteLine, numbers, bubble}
-use Rattle.pipe_fields.specs.Allowed.{allowed, fetch_row_allowed, decode_row_allowed, execute_row_allowed, memory_row_allowed, write_row_allowed, registers_allowed, fetch_allowed, decode_allowed, execute_allowed, memory_allowed, write_allowed, is_good_aok, decode_bubble, execute_bubble, memory_bubble, write_bubble}
+use Rattle.pipe_fields.specs.Allowed.{allowed, fetch_row_allowed, decode_row_allowed, execute_row_allowed, memory_row_allowed, write_row_allowed, registers_allowed, fetch_allowed, stage_allowed, is_good_aok, decode_bubble, execute_bubble, memory_bubble, write_bubble}
 use Rattle.pipe_fields.proofs.Told.{lines_allowed}
 use Rattle.prog_gen.specs.Choices.{AreChosen}
 use Rattle.prog_laws.proofs.Conjunctions.{with_all, ◌and◌}
@@ -73,9 +73,9 @@ decode_bubble' v x e h =
       back = off_only _ x.back back;
     })
 
-decode_instr : (v : Variant) (x : DecodeLine) → (x.kind == bubble) ≡ false → (nat_lt x.kind 3 && decode_row_allowed (length (rows v)) x.icode (row v x.icode) x) ≡ true → DecodeMay v x
+decode_instr : (v : Variant) (x : DecodeLine) → (x.kind == bubble) ≡ false → nat_lt x.kind 3 ≡ true → decode_row_allowed (length (rows v)) x.icode (row v x.icode) x ≡ true → DecodeMay v x
 unfolding decode_row_allowed
-decode_instr v x e h =
+decode_instr v x e small h =
     let r : Row = row v x.icode in
     with_all (stat_allowed (length (rows v)) false x.stat x.icode)
     (nat_le x.ifun r.ifun_top ∷ (not (x.stat == 3) || x.ifun == 0)
@@ -84,9 +84,9 @@ decode_instr v x e h =
     ∷ cnd_allowed_where (is_good_aok x.kind x.stat && next_is_branch r.next) x.ifun x.taken
     ∷ zero_unless (is_good_aok x.kind x.stat && accesses r.memory) x.stops
     ∷ zero_unless (is_good_aok x.kind x.stat && next_is_branch r.next) x.back
-    ∷ []) (DecodeMay v x) (and_second (nat_lt x.kind 3) _ h)
+    ∷ []) (DecodeMay v x) h
     (λ icode ifun faulted r_a r_b taken stops back. record {
-      kind = and_first (nat_lt x.kind 3) _ h;
+      kind = small;
       stat = choose_else _ _ _ e (stat_range (length (rows v)) false x.stat x.icode icode);
       icode = choose_else _ _ _ e icode;
       ifun = choose_else _ _ _ e (ifun and faulted);
@@ -119,9 +119,9 @@ execute_bubble' v x e h =
       back = off_only _ x.back back;
     })
 
-execute_instr : (v : Variant) (x : ExecuteLine) → (x.kind == bubble) ≡ false → (nat_lt x.kind 3 && execute_row_allowed (length (rows v)) x.icode (row v x.icode) x) ≡ true → ExecuteMay v x
+execute_instr : (v : Variant) (x : ExecuteLine) → (x.kind == bubble) ≡ false → nat_lt x.kind 3 ≡ true → execute_row_allowed (length (rows v)) x.icode (row v x.icode) x ≡ true → ExecuteMay v x
 unfolding execute_row_allowed
-execute_instr v x e h =
+execute_instr v x e small h =
     let r : Row = row v x.icode in
     with_all (stat_allowed (length (rows v)) false x.stat x.icode)
     (nat_le x.ifun r.ifun_top ∷ (not (x.stat == 3) || x.ifun == 0)
@@ -129,12 +129,12 @@ execute_instr v x e h =
     ∷ cnd_allowed x.ifun x.cnd
     ∷ zero_unless (is_good_aok x.kind x.stat && accesses r.memory) x.stops
     ∷ zero_unless (is_good_aok x.kind x.stat && next_is_branch r.next) x.back
-    ∷ []) (ExecuteMay v x) (and_second (nat_lt x.kind 3) _ h)
+    ∷ []) (ExecuteMay v x) h
     (λ icode ifun faulted registers cnd stops back.
     with_all (register_allowed r.dst_e x.dst_e)
     (register_allowed r.dst_m x.dst_m ∷ register_allowed r.src_a x.src_a ∷ register_allowed r.src_b x.src_b ∷ shares_register r x.src_b x.dst_e ∷ []) (ExecuteMay v x) registers
     (λ dst_e dst_m src_a src_b shared. record {
-      kind = and_first (nat_lt x.kind 3) _ h;
+      kind = small;
       stat = choose_else _ _ _ e (stat_range (length (rows v)) false x.stat x.icode icode);
       icode = choose_else _ _ _ e icode;
       ifun = choose_else _ _ _ e (ifun and faulted);
@@ -178,9 +178,9 @@ lost_or_kept r ifun cnd d h c = by (r.conditional && not (set cnd)) refl
         (and_from (d == no_register) (not (ifun == 0)) (then_true _ _ _ e h) (nonzero (ifun == 0) refl (not-true (set cnd) (and_second r.conditional (not (set cnd)) e)))))
     by false e = or_left (register_allowed r.dst_e d) (r.conditional && (d == no_register && not (ifun == 0))) (else_true _ _ _ e h)
 
-memory_instr : (v : Variant) (x : MemoryLine) → (x.kind == bubble) ≡ false → (nat_lt x.kind 2 && memory_row_allowed (length (rows v)) x.icode (row v x.icode) x) ≡ true → MemoryMay v x
+memory_instr : (v : Variant) (x : MemoryLine) → (x.kind == bubble) ≡ false → nat_lt x.kind 2 ≡ true → memory_row_allowed (length (rows v)) x.icode (row v x.icode) x ≡ true → MemoryMay v x
 unfolding memory_row_allowed
-memory_instr v x e h =
+memory_instr v x e small h =
     let r : Row = row v x.icode in
     with_all (stat_allowed (length (rows v)) false x.stat x.icode)
     (nat_le x.ifun r.ifun_top ∷ (not (x.stat == 3) || x.ifun == 0)
@@ -189,9 +189,9 @@ memory_instr v x e h =
     ∷ cnd_allowed x.ifun x.cnd
     ∷ zero_unless (is_good_aok x.kind x.stat && accesses r.memory) x.error
     ∷ zero_unless (is_good_aok x.kind x.stat && next_is_branch r.next) x.back
-    ∷ []) (MemoryMay v x) (and_second (nat_lt x.kind 2) _ h)
+    ∷ []) (MemoryMay v x) h
     (λ icode ifun faulted dst_e dst_m cnd error back. record {
-      kind = and_first (nat_lt x.kind 2) _ h;
+      kind = small;
       stat = choose_else _ _ _ e (stat_range (length (rows v)) false x.stat x.icode icode);
       icode = choose_else _ _ _ e icode;
       ifun = choose_else _ _ _ e (ifun and faulted);
@@ -213,50 +213,37 @@ write_bubble' v x e h =
       dst_m = nop_may v x.icode (λ r. register_allowed r.dst_m x.dst_m) icode dst_m;
     })
 
-write_instr : (v : Variant) (x : WriteLine) → (x.kind == bubble) ≡ false → (nat_lt x.kind 2 && write_row_allowed (length (rows v)) x.icode (row v x.icode) x) ≡ true → WriteMay v x
+write_instr : (v : Variant) (x : WriteLine) → (x.kind == bubble) ≡ false → nat_lt x.kind 2 ≡ true → write_row_allowed (length (rows v)) x.icode (row v x.icode) x ≡ true → WriteMay v x
 unfolding write_row_allowed
-write_instr v x e h =
+write_instr v x e small h =
     let r : Row = row v x.icode in
     with_all (stat_allowed (length (rows v)) (accesses r.memory) x.stat x.icode)
-    (((r.conditional && x.dst_e == no_register) || register_allowed r.dst_e x.dst_e) ∷ register_allowed r.dst_m x.dst_m ∷ []) (WriteMay v x) (and_second (nat_lt x.kind 2) _ h)
+    (((r.conditional && x.dst_e == no_register) || register_allowed r.dst_e x.dst_e) ∷ register_allowed r.dst_m x.dst_m ∷ []) (WriteMay v x) h
     (λ icode dst_e dst_m. record {
-      kind = and_first (nat_lt x.kind 2) _ h;
+      kind = small;
       stat = choose_else _ _ _ e (stat_range (length (rows v)) (accesses r.memory) x.stat x.icode icode);
       icode = choose_else _ _ _ e icode;
       dst_e = dst_e;
       dst_m = dst_m;
     })
 
-decode_back : (v : Variant) (x : DecodeLine) → decode_allowed v x ≡ true → DecodeMay v x
-decode_back v x h = by (x.kind == bubble) refl
+-- an allowed line is a bubble's or an instruction's
+stage_back : (R : Type 0) (kinds kind : ℕ) (as_bubble fits : Bool) → stage_allowed kinds kind as_bubble fits ≡ true →
+    ((kind == bubble) ≡ true → as_bubble ≡ true → R) → ((kind == bubble) ≡ false → nat_lt kind kinds ≡ true → fits ≡ true → R) → R
+stage_back R kinds kind as_bubble fits h held other = by (kind == bubble) refl
   where
-    by : (b : Bool) → (x.kind == bubble) ≡ b → DecodeMay v x
-    by true e = decode_bubble' v x e (then_true _ _ _ e h)
-    by false e = decode_instr v x e (else_true _ _ _ e h)
-
-execute_back : (v : Variant) (x : ExecuteLine) → execute_allowed v x ≡ true → ExecuteMay v x
-execute_back v x h = by (x.kind == bubble) refl
-  where
-    by : (b : Bool) → (x.kind == bubble) ≡ b → ExecuteMay v x
-    by true e = execute_bubble' v x e (then_true _ _ _ e h)
-    by false e = execute_instr v x e (else_true _ _ _ e h)
-
-memory_back : (v : Variant) (x : MemoryLine) → memory_allowed v x ≡ true → MemoryMay v x
-memory_back v x h = by (x.kind == bubble) refl
-  where
-    by : (b : Bool) → (x.kind == bubble) ≡ b → MemoryMay v x
-    by true e = memory_bubble' v x e (then_true _ _ _ e h)
-    by false e = memory_instr v x e (else_true _ _ _ e h)
-
-write_back : (v : Variant) (x : WriteLine) → write_allowed v x ≡ true → WriteMay v x
-write_back v x h = by (x.kind == bubble) refl
-  where
-    by : (b : Bool) → (x.kind == bubble) ≡ b → WriteMay v x
-    by true e = write_bubble' v x e (then_true _ _ _ e h)
-    by false e = write_instr v x e (else_true _ _ _ e h)
+    by : (b : Bool) → (kind == bubble) ≡ b → R
+    by true e = held e (then_true _ _ _ e h)
+    by false e = let both = else_true _ _ _ e h in other e (and_first _ _ both) (and_second _ _ both)
 
 -- each number of an allowed valuation may follow those before it
 pub allowed_chosen : (v : Variant) (c : Fields) → allowed v c ≡ true → AreChosen v (numbers c)
 allowed_chosen v c h =
     let lines = lines_allowed v c h in
-    may_chosen v c (record { f = fetch_back v c.f lines.f; d = decode_back v c.d lines.d; e = execute_back v c.e lines.e; m = memory_back v c.m lines.m; w = write_back v c.w lines.w })
+    may_chosen v c (record {
+      f = fetch_back v c.f lines.f;
+      d = stage_back _ _ _ _ _ lines.d (decode_bubble' v c.d) (decode_instr v c.d);
+      e = stage_back _ _ _ _ _ lines.e (execute_bubble' v c.e) (execute_instr v c.e);
+      m = stage_back _ _ _ _ _ lines.m (memory_bubble' v c.m) (memory_instr v c.m);
+      w = stage_back _ _ _ _ _ lines.w (write_bubble' v c.w) (write_instr v c.w);
+    })

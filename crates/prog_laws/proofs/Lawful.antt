@@ -1,5 +1,5 @@
 -- Numbers each of which may follow those before it are those of an allowed valuation.
-use Rattle.std.proofs.Common.{◌≡◌, ℕ, ◌<◌, Bool, true, false, not, ◌&&◌, ◌||◌, ◌==◌, nat_le, if◌then◌else◌, length, slice_get, unwrap_or, refl, ap, sym, subst, arith}
+use Rattle.std.proofs.Common.{◌≡◌, ℕ, ◌<◌, Bool, true, false, not, ◌&&◌, ◌||◌, ◌==◌, nat_lt, nat_le, if◌then◌else◌, length, slice_get, unwrap_or, refl, ap, sym, subst, arith}
 use Rattle.std.proofs.lemmas.Bool.{eqb-true, and_from}
 use Rattle.std.proofs.lemmas.Bool.Decides.{nat_tests}
 use Rattle.y86_base.specs.declared.parts.Variant.{Variant}
@@ -8,10 +8,10 @@ use Rattle.y86_base.specs.Words.{set}
 use Rattle.y86_base.proofs.Booleans.{and_second, and_first}
 use Rattle.y86_isa.specs.declared.columns.Row.{Row}
 use Rattle.y86_isa.specs.Table.{rows, row, dash_row, inop, no_register}
-use Rattle.net_fields.specs.AllowedNumbers.{register_field_allowed, register_allowed, cnd_allowed_where, zero_unless, cnd_allowed, icode_allowed}
+use Rattle.net_fields.specs.AllowedNumbers.{register_field_allowed, register_allowed, cnd_allowed_where, zero_unless, cnd_allowed, icode_allowed, codes_allowed}
 use Rattle.pipe_fields.specs.Layout.{Fields, FetchLine, DecodeLine, ExecuteLine, MemoryLine, WriteLine, numbers, bubble}
-use Rattle.pipe_fields.specs.Allowed.{allowed, fetch_row_allowed, decode_row_allowed, execute_row_allowed, memory_row_allowed, write_row_allowed, fetch_allowed, decode_allowed, execute_allowed, memory_allowed, write_allowed, is_good_aok}
-use Rattle.prog_gen.specs.Choices.{AreChosen, ifun_choice_allowed}
+use Rattle.pipe_fields.specs.Allowed.{allowed, fetch_row_allowed, decode_row_allowed, execute_row_allowed, memory_row_allowed, write_row_allowed, fetch_allowed, decode_allowed, execute_allowed, memory_allowed, write_allowed, stage_allowed, is_good_aok}
+use Rattle.prog_gen.specs.Choices.{AreChosen, icode_choice_allowed, ifun_choice_allowed}
 use Rattle.prog_laws.proofs.Conjunctions.{◌and◌}
 use Rattle.prog_laws.proofs.Lines.{FetchMay, DecodeMay, ExecuteMay, MemoryMay, WriteMay, chosen_may}
 
@@ -84,80 +84,64 @@ or_false false h = h
 
 -- ---- line by line
 
--- the ifun of an instruction
-ifun_fits : (r : Row) (kind stat n : ℕ) → (kind == bubble) ≡ false → ifun_choice_allowed r kind stat n ≡ true → (nat_le n r.ifun_top && (not (stat == 3) || n == 0)) ≡ true
-ifun_fits r kind stat n e h = else_true _ _ _ e h
+-- the codes of an instruction
+codes_chosen : (v : Variant) (kind stat icode ifun : ℕ) → (kind == bubble) ≡ false → icode_choice_allowed (length (rows v)) kind false stat icode ≡ true →
+    ifun_choice_allowed (row v icode) kind stat ifun ≡ true → codes_allowed (length (rows v)) (row v icode) stat icode ifun ≡ true
+codes_chosen v kind stat icode ifun e told h = let fits = else_true _ _ _ e h in else_true _ _ _ e told and and_first _ _ fits and and_second _ _ fits
+
+-- a line is allowed if it is as a bubble for a bubble, and as an instruction for any other kind
+stage_chosen : (kinds kind : ℕ) (as_bubble fits : Bool) → nat_lt kind kinds ≡ true → ((kind == bubble) ≡ true → as_bubble ≡ true) → ((kind == bubble) ≡ false → fits ≡ true) →
+    stage_allowed kinds kind as_bubble fits ≡ true
+stage_chosen kinds kind as_bubble fits may held other = by (kind == bubble) refl
+  where
+    by : (b : Bool) → (kind == bubble) ≡ b → stage_allowed kinds kind as_bubble fits ≡ true
+    by true e = choose_then _ _ _ e (held e)
+    by false e = choose_else _ _ _ e (may and other e)
 
 decode_chosen : (v : Variant) (x : DecodeLine) → DecodeMay v x → decode_allowed v x ≡ true
 unfolding decode_row_allowed
-decode_chosen v x may = by (x.kind == bubble) refl
-  where
-    by : (b : Bool) → (x.kind == bubble) ≡ b → decode_allowed v x ≡ true
-    by true e =
-        let icode : (x.icode == inop) ≡ true = then_true _ _ _ e may.icode in
-        choose_then _ _ _ e
-        (then_true _ _ _ e may.stat and icode and then_true _ _ _ e may.ifun
-        and nop_says v x.icode (λ r. register_field_allowed r.has_byte r.uses_a x.r_a) icode may.r_a
-        and nop_says v x.icode (λ r. register_field_allowed r.has_byte r.uses_b x.r_b) icode may.r_b
-        and untaken x.kind x.stat x.ifun _ x.taken e may.taken and hidden x.kind x.stat _ x.stops e may.stops and hidden x.kind x.stat _ x.back e may.back)
-    by false e =
-        let ifun = ifun_fits (row v x.icode) x.kind x.stat x.ifun e may.ifun in
-        choose_else _ _ _ e
-        (may.kind and (else_true _ _ _ e may.icode and and_first _ _ ifun and and_second _ _ ifun and may.r_a and may.r_b and may.taken and may.stops and may.back))
+decode_chosen v x may = stage_chosen _ _ _ _ may.kind
+    (λ e. let icode = then_true _ _ _ e may.icode in
+    then_true _ _ _ e may.stat and icode and then_true _ _ _ e may.ifun
+    and nop_says v x.icode (λ r. register_field_allowed r.has_byte r.uses_a x.r_a) icode may.r_a
+    and nop_says v x.icode (λ r. register_field_allowed r.has_byte r.uses_b x.r_b) icode may.r_b
+    and untaken x.kind x.stat x.ifun _ x.taken e may.taken and hidden x.kind x.stat _ x.stops e may.stops and hidden x.kind x.stat _ x.back e may.back)
+    (λ e. codes_chosen _ _ _ _ _ e may.icode may.ifun and may.r_a and may.r_b and may.taken and may.stops and may.back)
 
 execute_chosen : (v : Variant) (x : ExecuteLine) → x.cnd < 2 → ExecuteMay v x → execute_allowed v x ≡ true
 unfolding execute_row_allowed
-execute_chosen v x small may = by (x.kind == bubble) refl
-  where
-    by : (b : Bool) → (x.kind == bubble) ≡ b → execute_allowed v x ≡ true
-    by true e =
-        let icode : (x.icode == inop) ≡ true = then_true _ _ _ e may.icode in
-        let ifun : (x.ifun == 0) ≡ true = then_true _ _ _ e may.ifun in
-        choose_then _ _ _ e
-        (then_true _ _ _ e may.stat and icode and ifun
-        and nop_says v x.icode (λ r. register_allowed r.dst_e x.dst_e) icode may.dst_e
-        and nop_says v x.icode (λ r. register_allowed r.dst_m x.dst_m) icode may.dst_m
-        and nop_says v x.icode (λ r. register_allowed r.src_a x.src_a) icode may.src_a
-        and nop_says v x.icode (λ r. register_allowed r.src_b x.src_b) icode (and_first _ _ may.src_b)
-        and sure x.ifun x.cnd ifun may.cnd small and hidden x.kind x.stat _ x.stops e may.stops and hidden x.kind x.stat _ x.back e may.back)
-    by false e =
-        let ifun = ifun_fits (row v x.icode) x.kind x.stat x.ifun e may.ifun in
-        choose_else _ _ _ e
-        (may.kind and (else_true _ _ _ e may.icode and and_first _ _ ifun and and_second _ _ ifun
-        and (may.dst_e and may.dst_m and may.src_a and and_first _ _ may.src_b and and_second _ _ may.src_b)
-        and may.cnd and may.stops and may.back))
+execute_chosen v x small may = stage_chosen _ _ _ _ may.kind
+    (λ e. let icode = then_true _ _ _ e may.icode in
+    let ifun = then_true _ _ _ e may.ifun in
+    then_true _ _ _ e may.stat and icode and ifun
+    and nop_says v x.icode (λ r. register_allowed r.dst_e x.dst_e) icode may.dst_e
+    and nop_says v x.icode (λ r. register_allowed r.dst_m x.dst_m) icode may.dst_m
+    and nop_says v x.icode (λ r. register_allowed r.src_a x.src_a) icode may.src_a
+    and nop_says v x.icode (λ r. register_allowed r.src_b x.src_b) icode (and_first _ _ may.src_b)
+    and sure x.ifun x.cnd ifun may.cnd small and hidden x.kind x.stat _ x.stops e may.stops and hidden x.kind x.stat _ x.back e may.back)
+    (λ e. codes_chosen _ _ _ _ _ e may.icode may.ifun
+    and (may.dst_e and may.dst_m and may.src_a and and_first _ _ may.src_b and and_second _ _ may.src_b)
+    and may.cnd and may.stops and may.back)
 
 memory_chosen : (v : Variant) (x : MemoryLine) → MemoryMay v x → memory_allowed v x ≡ true
 unfolding memory_row_allowed
-memory_chosen v x may = by (x.kind == bubble) refl
-  where
-    by : (b : Bool) → (x.kind == bubble) ≡ b → memory_allowed v x ≡ true
-    by true e =
-        let icode : (x.icode == inop) ≡ true = then_true _ _ _ e may.icode in
-        choose_then _ _ _ e
-        (then_true _ _ _ e may.stat and icode and then_true _ _ _ e may.ifun
-        and or_false _ (nop_says v x.icode (λ r. register_allowed r.dst_e x.dst_e || (r.conditional && (x.dst_e == no_register && not (x.ifun == 0)))) icode may.dst_e)
-        and nop_says v x.icode (λ r. register_allowed r.dst_m x.dst_m) icode may.dst_m
-        and hidden x.kind x.stat _ x.error e may.error and hidden x.kind x.stat _ x.back e may.back)
-    by false e =
-        let ifun = ifun_fits (row v x.icode) x.kind x.stat x.ifun e may.ifun in
-        let cnd = else_true _ _ _ e may.cnd in
-        choose_else _ _ _ e
-        (may.kind and (else_true _ _ _ e may.icode and and_first _ _ ifun and and_second _ _ ifun
-        and and_second _ _ cnd and may.dst_m and and_first _ _ cnd and may.error and may.back))
+memory_chosen v x may = stage_chosen _ _ _ _ may.kind
+    (λ e. let icode = then_true _ _ _ e may.icode in
+    then_true _ _ _ e may.stat and icode and then_true _ _ _ e may.ifun
+    and or_false _ (nop_says v x.icode (λ r. register_allowed r.dst_e x.dst_e || (r.conditional && (x.dst_e == no_register && not (x.ifun == 0)))) icode may.dst_e)
+    and nop_says v x.icode (λ r. register_allowed r.dst_m x.dst_m) icode may.dst_m
+    and hidden x.kind x.stat _ x.error e may.error and hidden x.kind x.stat _ x.back e may.back)
+    (λ e. let cnd = else_true _ _ _ e may.cnd in
+    codes_chosen _ _ _ _ _ e may.icode may.ifun and and_second _ _ cnd and may.dst_m and and_first _ _ cnd and may.error and may.back)
 
 write_chosen : (v : Variant) (x : WriteLine) → WriteMay v x → write_allowed v x ≡ true
 unfolding write_row_allowed
-write_chosen v x may = by (x.kind == bubble) refl
-  where
-    by : (b : Bool) → (x.kind == bubble) ≡ b → write_allowed v x ≡ true
-    by true e =
-        let icode : (x.icode == inop) ≡ true = then_true _ _ _ e may.icode in
-        choose_then _ _ _ e
-        (then_true _ _ _ e may.stat and icode
-        and nop_says v x.icode (λ r. (r.conditional && x.dst_e == no_register) || register_allowed r.dst_e x.dst_e) icode may.dst_e
-        and nop_says v x.icode (λ r. register_allowed r.dst_m x.dst_m) icode may.dst_m)
-    by false e = choose_else _ _ _ e (may.kind and (else_true _ _ _ e may.icode and may.dst_e and may.dst_m))
+write_chosen v x may = stage_chosen _ _ _ _ may.kind
+    (λ e. let icode = then_true _ _ _ e may.icode in
+    then_true _ _ _ e may.stat and icode
+    and nop_says v x.icode (λ r. (r.conditional && x.dst_e == no_register) || register_allowed r.dst_e x.dst_e) icode may.dst_e
+    and nop_says v x.icode (λ r. register_allowed r.dst_m x.dst_m) icode may.dst_m)
+    (λ e. else_true _ _ _ e may.icode and may.dst_e and may.dst_m)
 
 -- numbers each of which may follow those before it are those of an allowed valuation
 pub chosen_allowed : (v : Variant) (c : Fields) → c.e.cnd < 2 → AreChosen v (numbers c) → allowed v c ≡ true
