@@ -108,35 +108,23 @@ pub chosen_may : (v : Variant) (c : Fields) → AreChosen v (numbers c) → Line
 unfolding choice_allowed
 chosen_may v c h =
     with_from (IsMet v c) 0 (length kind_fields) (LinesMay v c) (λ j ge lt. h j (omega (arith, lt)))
-    (λ d_kind e_kind m_kind w_kind. record { f = of_f; d = of_d d_kind; e = of_e e_kind; m = of_m m_kind; w = of_w w_kind })
-  where
-    of_f : FetchMay v c.f
-    of_f =
-        with_from (IsMet v c) f_first (length fetch_fields) (FetchMay v c.f) (λ j ge lt. h j (omega (arith, lt)))
-        (λ error icode ifun taken stops back. record { error = error; icode = icode; ifun = ifun; taken = taken; stops = stops; back = back })
-
-    of_d : nat_lt c.d.kind 3 ≡ true → DecodeMay v c.d
-    of_d kind =
-        with_from (IsMet v c) d_first (length decode_fields) (DecodeMay v c.d) (λ j ge lt. h j (omega (arith, lt)))
-        (λ stat icode ifun r_a r_b taken stops back.
-        record { kind = kind; stat = stat; icode = icode; ifun = ifun; r_a = r_a; r_b = r_b; taken = taken; stops = stops; back = back })
-
-    of_e : nat_lt c.e.kind 3 ≡ true → ExecuteMay v c.e
-    of_e kind =
-        with_from (IsMet v c) e_first (length execute_fields) (ExecuteMay v c.e) (λ j ge lt. h j (omega (arith, lt)))
-        (λ stat icode ifun dst_e dst_m src_a src_b cnd stops back.
-        record { kind = kind; stat = stat; icode = icode; ifun = ifun; dst_e = dst_e; dst_m = dst_m; src_a = src_a; src_b = src_b; cnd = cnd; stops = stops; back = back })
-
-    of_m : nat_lt c.m.kind 2 ≡ true → MemoryMay v c.m
-    of_m kind =
-        with_from (IsMet v c) m_first (length memory_fields) (MemoryMay v c.m) (λ j ge lt. h j (omega (arith, lt)))
-        (λ stat icode ifun dst_e dst_m cnd error back.
-        record { kind = kind; stat = stat; icode = icode; ifun = ifun; dst_e = dst_e; dst_m = dst_m; cnd = cnd; error = error; back = back })
-
-    of_w : nat_lt c.w.kind 2 ≡ true → WriteMay v c.w
-    of_w kind =
-        with_from (IsMet v c) w_first (length write_fields) (WriteMay v c.w) (λ j ge lt. h j (omega (arith, lt)))
-        (λ stat icode dst_e dst_m. record { kind = kind; stat = stat; icode = icode; dst_e = dst_e; dst_m = dst_m })
+    (λ d_kind e_kind m_kind w_kind. record {
+      f =
+          with_from (IsMet v c) f_first (length fetch_fields) (FetchMay v c.f) (λ j ge lt. h j (omega (arith, lt)))
+          (λ error icode ifun taken stops back. record { error = error; icode = icode; ifun = ifun; taken = taken; stops = stops; back = back });
+      d =
+          with_from (IsMet v c) d_first (length decode_fields) (DecodeMay v c.d) (λ j ge lt. h j (omega (arith, lt)))
+          (λ stat icode ifun r_a r_b taken stops back. record { kind = d_kind; stat = stat; icode = icode; ifun = ifun; r_a = r_a; r_b = r_b; taken = taken; stops = stops; back = back });
+      e =
+          with_from (IsMet v c) e_first (length execute_fields) (ExecuteMay v c.e) (λ j ge lt. h j (omega (arith, lt)))
+          (λ stat icode ifun dst_e dst_m src_a src_b cnd stops back. record { kind = e_kind; stat = stat; icode = icode; ifun = ifun; dst_e = dst_e; dst_m = dst_m; src_a = src_a; src_b = src_b; cnd = cnd; stops = stops; back = back });
+      m =
+          with_from (IsMet v c) m_first (length memory_fields) (MemoryMay v c.m) (λ j ge lt. h j (omega (arith, lt)))
+          (λ stat icode ifun dst_e dst_m cnd error back. record { kind = m_kind; stat = stat; icode = icode; ifun = ifun; dst_e = dst_e; dst_m = dst_m; cnd = cnd; error = error; back = back });
+      w =
+          with_from (IsMet v c) w_first (length write_fields) (WriteMay v c.w) (λ j ge lt. h j (omega (arith, lt)))
+          (λ stat icode dst_e dst_m. record { kind = w_kind; stat = stat; icode = icode; dst_e = dst_e; dst_m = dst_m });
+    })
 
 -- the place of a signal's field
 abbrev position : List FieldSpec → ℕ → ℕ
