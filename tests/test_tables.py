@@ -33,11 +33,13 @@ ROWS = [
         "crates/dp_signals/specs/SequentialRows.antt": ["      mem_more = control + 17;", "      stat = control + 18;"],
         "crates/dp_signals/specs/SeqNames.antt": ["mem_more = defined + 17", "new_pc = defined + 19", "count = defined + 20"],
         "crates/seq_plus/specs/PlusNames.antt": ["pc = defined + 0", "mem_more = defined + 18", "count = defined + 20"],
+        "crates/seq_text/specs/Signals.antt": ["      mem_more = f r.mem_more;"],
     }),
     ("a signal of SEQ and SEQ+ in code", "crates/dp_signals/src/sequential_tables.rt", 'TableRow(b"mem_data", Class::Value, RowSource::Defined),', '\n    TableRow(b"mem_more", Class::Value, RowSource::Defined),', {
         "crates/dp_signals/src/sequential_rows.rt": ["    pub mem_more: NameId,", "            mem_more: $control + 17,", "            stat: $control + 18,"],
         "crates/dp_signals/src/seq_row.rt": ["pub const MEM_MORE: NameId = DEFINED + 17;", "pub const NEW_PC: NameId = DEFINED + 19;"],
         "crates/seq_plus/src/row.rt": ["pub const COUNT: NameId = DEFINED + 20;"],
+        "crates/seq_text/src/signals.rt": ["    pub mem_more: u64,", "        mem_more: at(values, rows.mem_more),"],
     }),
     ("a constant", "crates/dp_signals/specs/Tables.antt", '(codes "SINS", 4)', ' ∷ (codes "SMORE", 5)', {
         "crates/dp_signals/specs/Tables.antt": ["constant_count = 34"],

@@ -13,7 +13,7 @@ if __name__ == "__main__":
 from helpers.paths import TOP
 
 SIGNALS, PLUS, FIELDS, FLOWS = "crates/dp_signals", "crates/seq_plus", "crates/pipe_fields", "crates/pipe_requirements"
-LINES, NUMBERS = "crates/seq_obligations", "crates/seq_requirements"
+LINES, NUMBERS, SHOWN = "crates/seq_obligations", "crates/seq_requirements", "crates/seq_text"
 STAGES = {"f": "Fetch", "d": "Decode", "e": "Execute", "m": "Memory", "w": "Write"}
 GROUPS = ("state", "hardware", "defined")
 
@@ -130,6 +130,9 @@ def of_signals():
     path = f"{SIGNALS}/specs/SequentialRows.antt"
     rows = numbered({"hardware": hardware, "control": control}, lambda name, first, k: f"      {name} = {first} + {k};\n")
     made[path] = put(r"(?<=      pc = pc;\n).*?(?=    \}\n)", rows, read(path))
+    path = f"{SHOWN}/specs/Signals.antt"
+    values = numbered({"hardware": hardware, "control": control}, lambda name, *_: f"      {name} = f r.{name};\n")
+    made[path] = put(r"(?<=      pc = f r\.pc;\n).*?(?=    \}\n)", values, read(path))
     path = f"{SIGNALS}/specs/Tables.antt"
     count = len(re.findall("codes", body(read(path), "named_constants")))
     made[path] = put(r"^constant_count = \d+$", f"constant_count = {count}", read(path))
@@ -152,6 +155,9 @@ def of_signals_in_code():
     both = {"hardware": hardware, "control": control}
     text = put(r"(?<=    pub pc: NameId,\n).*?(?=^\})", numbered(both, lambda name, *_: f"    pub {name}: NameId,\n"), read(rows))
     made[rows] = put(r"(?<=            pc: \$pc,\n).*?(?=        \}\n)", numbered(both, lambda name, first, k: f"            {name}: ${first} + {k},\n"), text)
+    shown = f"{SHOWN}/src/signals.rt"
+    text = put(r"(?<=    pub pc: u64,\n).*?(?=^\})", numbered(both, lambda name, *_: f"    pub {name}: u64,\n"), read(shown))
+    made[shown] = put(r"(?<=        pc: at\(values, rows\.pc\),\n).*?(?=    \}\n)", numbered(both, lambda name, *_: f"        {name}: at(values, rows.{name}),\n"), text)
     path = f"{SIGNALS}/src/tables.rt"
     made[path] = put(r"^pub const CONSTANT_COUNT: NameId = \d+;$", f"pub const CONSTANT_COUNT: NameId = {len(in_code(read(path), 'CONSTANTS'))};", read(path))
     return made

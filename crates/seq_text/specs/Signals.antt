@@ -15,37 +15,37 @@ abbrev pub signals_by : SignalRows → (ℕ → ℕ) → Signals
 signals_by r f =
     record {
       pc = f r.pc;
-      icode = f r.icode;
-      ifun = f r.ifun;
       imem_icode = f r.imem_icode;
       imem_ifun = f r.imem_ifun;
       imem_error = f r.imem_error;
-      instr_valid = f r.instr_valid;
-      need_regids = f r.need_regids;
-      need_val_c = f r.need_val_c;
       r_a = f r.r_a;
       r_b = f r.r_b;
       val_c = f r.val_c;
       val_p = f r.val_p;
-      src_a = f r.src_a;
-      src_b = f r.src_b;
       val_a = f r.val_a;
       val_b = f r.val_b;
+      val_e = f r.val_e;
+      cnd = f r.cnd;
+      val_m = f r.val_m;
+      dmem_error = f r.dmem_error;
+      icode = f r.icode;
+      ifun = f r.ifun;
+      instr_valid = f r.instr_valid;
+      need_regids = f r.need_regids;
+      need_val_c = f r.need_val_c;
+      src_a = f r.src_a;
+      src_b = f r.src_b;
+      dst_e = f r.dst_e;
+      dst_m = f r.dst_m;
       alu_a = f r.alu_a;
       alu_b = f r.alu_b;
       alufun = f r.alufun;
       set_cc = f r.set_cc;
-      val_e = f r.val_e;
-      cnd = f r.cnd;
       mem_addr = f r.mem_addr;
       mem_read = f r.mem_read;
       mem_write = f r.mem_write;
       mem_data = f r.mem_data;
-      val_m = f r.val_m;
-      dmem_error = f r.dmem_error;
       stat = f r.stat;
-      dst_e = f r.dst_e;
-      dst_m = f r.dst_m;
     }
 
 unfoldable pub seq_signals : (ℕ → ℕ) → Signals
