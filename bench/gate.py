@@ -41,18 +41,34 @@ def crate_and_kind(process):
     return crate, "edits" if is_edit else "tests" if "--test" in words else "proofs"
 
 
-def look(session, provers):
-    """Notes what the provers of a session have used."""
-    now = time.monotonic()
+def stats():
+    """For each process its folder in /proc, and its fields of proc(5)'s `stat` from the state on."""
+    found = {}
     for process in glob.glob("/proc/[0-9]*"):
         try:
             with open(f"{process}/stat", encoding="utf-8") as it:
-                fields = it.read().rpartition(")")[2].split()
-            found = int(fields[3]) == session and crate_and_kind(process)
+                found[int(os.path.basename(process))] = process, it.read().rpartition(")")[2].split()
+        except OSError:
+            # (the process has ended)
+            continue
+    return found
+
+
+def look(run, provers):
+    """Notes what the provers that a process has started, itself or by others, have used."""
+    now, there = time.monotonic(), stats()
+
+    def is_of_run(number):
+        while number in there and number != run:
+            number = int(there[number][1][1])
+        return number == run
+
+    for number, (process, fields) in there.items():
+        try:
+            found = is_of_run(number) and crate_and_kind(process)
             with open(f"{process}/status", encoding="utf-8") as it:
                 peak = re.search(r"VmHWM:\s+(\d+)", it.read())
-        except (OSError, ValueError):
-            # (the process has ended)
+        except OSError:
             continue
         if not found:
             continue
