@@ -44,12 +44,13 @@ seq_run v terms order image k m q records first last steps copied begun calls nu
       number = number;
     }
 
-pub plus_run : (v : Variant) (terms : List Term) (order image : List ℕ) (k : ℕ) (m q : PlusMachine) (records : List Rec) (first : List ℕ) (last : Machine) (steps : ℕ) →
-    first ≡ image → m ≡ plus.started v terms order image → PlusCalls m k q records → length records ≡ steps → PlusEndIs q.variant q.terms q.state last →
+pub plus_run : (v : Variant) (terms : List Term) (order image : List ℕ) (k : ℕ) (m p q : PlusMachine) (records : List Rec) (first : List ℕ) (last : Machine) (steps : ℕ) →
+    first ≡ image → m ≡ plus.started v terms order image → PlusCalls m k q records → length records ≡ steps → p ≡ q → PlusEndIs p.variant p.terms p.state last →
     HasRun datapath.SeqPlus v terms image k first last steps
-plus_run v terms order image k m q records first last steps copied begun calls number ends =
+plus_run v terms order image k m p q records first last steps copied begun calls number same ended =
     let own : PlusCalls (plus.started v terms order image) k q records = subst (λ (x : PlusMachine). PlusCalls x k q records) begun calls in
     let is = calls_are_the_run v terms order image k q records own in
+    let ends : PlusEndIs q.variant q.terms q.state last = subst (λ (x : PlusMachine). PlusEndIs x.variant x.terms x.state last) same ended in
     let memory : last.mem ≡ q.state.mem = ap (λ (x : Machine). x.mem) ends.2 in
     record {
       copied = copied;

@@ -3,20 +3,23 @@ use Rattle.hcl_types.specs.declared.table.SequentialDatapath.TheVariants as data
 use Rattle.cli_runs.proofs.SequentialRuns.{one_size, part, seq_run, whole}
 use Rattle.cli_runs.proofs.ssim.run_seq.Goals as goal
 
+-- (`let` would have the checker work out the run once more at each use)
 pub report-requires : goal.report-requires
-report-requires g c =
-    let ran = c.run-ran.ensures.calls in
-    let it = seq_run _ _ _ _ _ _ _ ran.0 _ _ _ c.in-Ok.ensures c.new-machine.ensures ran.1 ran.2 (c.of-end.ensures ∙ c.state.ensures) in
-    record { one_size = one_size datapath.Seq _ _ _ _ _ _ _ it }
+report-requires g c = let ran = c.run-ran.ensures.calls in record {
+  one_size = one_size datapath.Seq _ _ _ _ _ _ _
+      (seq_run _ _ _ _ _ _ _ ran.0 _ _ _ c.in-Ok.ensures c.new-machine.ensures ran.1 ran.2 (c.of-end.ensures ∙ c.state.ensures));
+}
 
 pub returns-in-Ok-report : goal.returns-in-Ok-report
 returns-in-Ok-report g c =
     let ran = c.run-ran.ensures.calls in
-    let it = seq_run _ _ _ _ _ _ _ ran.0 _ _ _ c.in-Ok.ensures c.new-machine.ensures ran.1 ran.2 (c.of-end.ensures ∙ c.state.ensures) in
-    whole datapath.Seq _ _ _ _ _ _ _ it _ _ _ c.status.ensures.status c.status.ensures.low c.in-Ok-report.ensures.puts c.in-Ok-report.ensures.counts.no_fault_at_ok
+    whole datapath.Seq _ _ _ _ _ _ _
+    (seq_run _ _ _ _ _ _ _ ran.0 _ _ _ c.in-Ok.ensures c.new-machine.ensures ran.1 ran.2 (c.of-end.ensures ∙ c.state.ensures))
+    _ _ _ c.status.ensures.status c.status.ensures.low c.in-Ok-report.ensures.puts c.in-Ok-report.ensures.counts.no_fault_at_ok
 
 pub returns : goal.returns
 returns g c =
     let ran = c.run-ran.ensures.calls in
-    let it = seq_run _ _ _ _ _ _ _ ran.0 _ _ _ c.in-Ok.ensures c.new-machine.ensures ran.1 ran.2 (c.of-end.ensures ∙ c.state.ensures) in
-    part datapath.Seq _ _ _ _ _ _ _ it _ _ c.in-Err.ensures.puts c.in-Err.ensures.counts.one_fault_at_err
+    part datapath.Seq _ _ _ _ _ _ _
+    (seq_run _ _ _ _ _ _ _ ran.0 _ _ _ c.in-Ok.ensures c.new-machine.ensures ran.1 ran.2 (c.of-end.ensures ∙ c.state.ensures))
+    _ _ c.in-Err.ensures.puts c.in-Err.ensures.counts.one_fault_at_err
