@@ -1,5 +1,5 @@
 //! The gates and picks of all names of a table, along an order.
-ghost use Rattle.std.specs.Prelude.{◌≡◌, ◌≤◌, ◌<◌, ◌-◌, ◌++◌, ◌∷◌, [], true, ◌+◌, length, List, Bool, ℕ, IfOk, IfErr, OnOk, IsTrue, slice_get, slice_set, take, Some};
+ghost use Rattle.std.specs.Prelude.{◌≡◌, ◌≤◌, ◌<◌, ◌-◌, true, ◌+◌, length, List, Bool, ℕ, IfOk, IfErr, OnOk, IsTrue, slice_get, slice_set, take, Some};
 ghost use Rattle.std.specs.List.{AllByRecursion};
 ghost use Rattle.nets.specs.Nets.{ExtendsNet};
 ghost use Rattle.hcl_types.specs.declared.table.Row.{Row};
@@ -26,17 +26,7 @@ use ctl_terms::Scope;
 use hcl_types::{NameId, Order, OrderedDesign, Row, Table, Term, is_defined};
 use nets::NetBuilder;
 use std::alloc::Global;
-use y86_base::{Items, Memory};
-
-/// Adds an entry after the others.
-fn push_entry(es: &mut Vec<Entry>, e: Entry) -> Result<(), Memory>
-    ensures { OnOk result (es.new.items ≡ es.old.items ++ e ∷ []) }
-{
-    if es.push(e).is_err() {
-        return Err(Memory);
-    }
-    Ok(())
-}
+use y86_base::{Items, Memory, push};
 
 /// The entries of all rows before any definition is translated.
 fn given_entries(
@@ -53,7 +43,7 @@ fn given_entries(
     let mut es = Vec::new(alloc);
     for id in 0..rows.len() {
         let e = given_entry(alloc, b, &rows[id], id as NameId, places)?;
-        match push_entry(&mut es, e) {
+        match push(&mut es, e) {
             Ok(()) => {}
             Err(fault) => return Err(fault),
         }

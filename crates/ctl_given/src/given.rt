@@ -17,12 +17,12 @@ ghost use Rattle.ctl_picks.specs.Entries.{EntryEncodes, EntryWithin, IsEntryOf};
 
 use crate::places::Place;
 use ctl_atoms::Leaf;
-use ctl_picks::{Entry, Pick, put_pick};
+use ctl_picks::{Entry, Pick};
 use hcl_types::{Class, NameId, Role, Row};
 use net_fields::spells;
 use nets::NetBuilder;
 use std::alloc::Global;
-use y86_base::{Items, Memory};
+use y86_base::{Items, Memory, push};
 
 fn find_place(places: &[Place], name: NameId) -> Place
     requires { IsTrue (is_some (place_of places.now name)) }
@@ -49,7 +49,7 @@ fn one_pick(alloc: Global, b: &mut NetBuilder, leaf: Leaf) -> Result<Vec<Pick>, 
 {
     let gate = b.constant(true)?;
     let mut ps = Vec::new(alloc);
-    put_pick(&mut ps, Pick { leaf, gate })?;
+    push(&mut ps, Pick { leaf, gate })?;
     Ok(ps)
 }
 
@@ -88,7 +88,7 @@ fn code_picks(alloc: Global, b: &mut NetBuilder, place: Place) -> Result<Vec<Pic
     for k in 0..16u64 {
         let gate = spelling(b, place, k)?;
         let leaf = Leaf::Number(k);
-        match put_pick(&mut ps, Pick { leaf, gate }) {
+        match push(&mut ps, Pick { leaf, gate }) {
             Ok(()) => {}
             Err(e) => return Err(e),
         }

@@ -12,4 +12,4 @@ mod picking;
 pub use controls::{Controls, Entry, Pick};
 pub use ctl_atoms::Leaf;
 pub use laws::law_of_picks;
-pub use picking::{add, add_all, copy_picks, put_pick};
+pub use picking::{add, add_all, copy_picks};

@@ -1,5 +1,5 @@
 //! Lists of picks: finding a leaf, and joining a gate to its pick.
-ghost use Rattle.std.specs.Prelude.{◌≡◌, ◌<◌, ◌&&◌, ◌||◌, ◌++◌, ◌∷◌, [], length, List, Bool, IfOk, OnOk, MatchOption, false};
+ghost use Rattle.std.specs.Prelude.{◌≡◌, ◌<◌, ◌&&◌, ◌||◌, length, List, Bool, IfOk, OnOk, MatchOption, false};
 ghost use Rattle.ctl_atoms.specs.declared.leaf.Leaf.{Leaf};
 ghost use Rattle.nets.specs.Nets.{ExtendsNet, truth};
 ghost use Rattle.ctl_atoms.specs.Leaves.{leaf_eq};
@@ -11,7 +11,7 @@ use crate::controls::Pick;
 use ctl_atoms::{Leaf, same_leaf};
 use nets::NetBuilder;
 use std::alloc::Global;
-use y86_base::Memory;
+use y86_base::{Memory, push};
 
 /// The place of the pick of a leaf, if there is one.
 #[tactic(auto, using(ctl_atoms::proofs::Same::leaf_eq_true))]
@@ -24,16 +24,6 @@ pub fn place_of(ps: &[Pick], leaf: Leaf) -> Option<usize>
         }
     }
     None
-}
-
-/// Adds a pick after the others.
-pub fn put_pick(out: &mut Vec<Pick>, pick: Pick) -> Result<(), Memory>
-    ensures { OnOk result (out.new.items ≡ out.old.items ++ pick ∷ []) }
-{
-    if out.push(pick).is_err() {
-        return Err(Memory);
-    }
-    Ok(())
 }
 
 /// A copy of the picks.
@@ -62,7 +52,7 @@ pub fn add(b: &mut NetBuilder, out: &mut Vec<Pick>, leaf: Leaf, gate: u64) -> Re
             out[k] = Pick { leaf, gate: both };
             Ok(())
         }
-        None => put_pick(out, Pick { leaf, gate }),
+        None => push(out, Pick { leaf, gate }),
     }
 }
 

@@ -71,15 +71,20 @@ pub record EncodesSoFar (n : Gates) (es : List Entry) (listed : List Atom) (firs
   pub atoms : AtomsAre listed first w α
   pub entries : (id : ℕ) (e : Entry) → slice_get es id ≡ Some e → EntryEncodes (at n w) α e (cv id)
 
--- these four at the entries and the atoms of a scope
+-- ---- at the entries and the atoms of a scope
+
+-- what the translation of a term needs, and the leaves that it can pick
 abbrev pub translatable_in : Scope → Term → Translatable
 translatable_in s = translatable s.entries.now s.atoms.now
 
+-- the same of the guard and of the value of a case
 abbrev pub branch_ready_in : Scope → TermBranch → Translatable × Translatable
 branch_ready_in s = branch_ready s.entries.now s.atoms.now
 
+-- the net has the gates of the entries, and a variable for each atom
 abbrev pub IsScopeIn : Gates → Scope → Type 0
 IsScopeIn n s = HasScope n s.entries.now s.atoms.now s.first
 
+-- at a valuation, the entries encode control values, and the variables the truths of the atoms
 abbrev pub EncodesScope : Gates → Scope → List Bool → Assignment → (ℕ → Leaf) → Type 0
 EncodesScope n s = EncodesSoFar n s.entries.now s.atoms.now s.first

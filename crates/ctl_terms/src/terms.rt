@@ -20,11 +20,11 @@ ghost use Rattle.ctl_atoms.specs.declared.leaf.Leaf.TheVariants.{Number};
 
 use crate::scope::Scope;
 use ctl_atoms::Leaf;
-use ctl_picks::{Entry, Pick, add, add_all, copy_picks, put_pick};
+use ctl_picks::{Entry, Pick, add, add_all, copy_picks};
 use hcl_types::{CmpOp, Term, TermBranch};
 use nets::NetBuilder;
 use std::alloc::Global;
-use y86_base::Memory;
+use y86_base::{Memory, push};
 
 /// Whether a term is the number 1.
 pub fn is_one(t: &Term) -> bool
@@ -114,7 +114,7 @@ impl<'a> Scope<'a> {
                 let gate = b.constant(true)?;
                 let mut ps = Vec::new(alloc);
                 let leaf = Leaf::Number(*n);
-                put_pick(&mut ps, Pick { leaf, gate })?;
+                push(&mut ps, Pick { leaf, gate })?;
                 Ok(ps)
             }
             Term::Name(id) => copy_picks(alloc, self.picks_of(*id)),

@@ -1,5 +1,5 @@
 //! Compiles the definitions of a design to decision nodes.
-ghost use Rattle.std.specs.Prelude.{◌≡◌, ◌++◌, IfOk, OnOk, [], ◌∷◌};
+ghost use Rattle.std.specs.Prelude.{◌≡◌, IfOk};
 ghost use Rattle.hcl_compile.specs.Walks.{AreRoots};
 
 use crate::choices::put_value;
@@ -7,16 +7,7 @@ use crate::decisions::Decisions;
 use crate::node::Compiled;
 use hcl_types::{OrderedDesign, SignalEval, Term};
 use std::alloc::Global;
-use y86_base::{Items, Memory};
-
-fn put_root(root: u32, roots: &mut Vec<u32>) -> Result<(), Memory>
-    ensures { OnOk result (roots.new.items ≡ roots.old.items ++ root ∷ []) }
-{
-    if roots.push(root).is_err() {
-        return Err(Memory);
-    }
-    Ok(())
-}
+use y86_base::{Items, Memory, push};
 
 /// The target where the walk of each term begins.
 fn put_roots(
@@ -30,7 +21,7 @@ fn put_roots(
     let mut roots = Vec::new(alloc);
     for t in all {
         let root = put_value(alloc, t, constants, d)?;
-        put_root(root, &mut roots)?;
+        push(&mut roots, root)?;
     }
     Ok(roots)
 }

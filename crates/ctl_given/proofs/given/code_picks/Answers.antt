@@ -19,7 +19,7 @@ loop-k-preserved c =
     let ps = c.loop-k.ps.items in
     let k = c.loop-k.k in
     let q : Pick = record { leaf = Number k; gate = c.in_ok-gate.gate } in
-    let items : c.put_pick.new.out.items ≡ ps ++ q ∷ [] = c.in-Ok.ensures in
+    let items : c.push.new.list.items ≡ ps ++ q ∷ [] = c.in-Ok.ensures in
     let made = c.in_ok-gate.ensures in
     let inv = c.loop-k.invariant in
     record {

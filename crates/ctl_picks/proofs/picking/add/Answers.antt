@@ -41,12 +41,12 @@ returns-in_ok-both-in-Some-clause-is c = λ w y.
 pub returns-in-None-clause-within : goal.returns-in-None-clause-within
 returns-in-None-clause-within c =
     let n = length c.args.b.now.gates in
-    on_ok_weaker c.put_pick.result (λ grown. subst (λ (xs : List Pick). Within n xs) (sym grown)
+    on_ok_weaker c.push.result (λ grown. subst (λ (xs : List Pick). Within n xs) (sym grown)
     (within_push n c.args.out.now.items (record { leaf = c.args.leaf; gate = c.args.gate }) c.requires.within c.requires.gate))
-    c.put_pick.ensures
+    c.push.ensures
 
 pub returns-in-None-clause-is : goal.returns-in-None-clause-is
 returns-in-None-clause-is c = λ w y.
-    on_ok_weaker c.put_pick.result (λ grown. ap (λ (xs : List Pick). leaf_taken (at c.args.b.now w) xs y) grown
+    on_ok_weaker c.push.result (λ grown. ap (λ (xs : List Pick). leaf_taken (at c.args.b.now w) xs y) grown
     ∙ taken_push (at c.args.b.now w) c.args.out.now.items (record { leaf = c.args.leaf; gate = c.args.gate }) y)
-    c.put_pick.ensures
+    c.push.ensures
