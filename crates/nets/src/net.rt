@@ -1,9 +1,9 @@
 //! Gates, and nets of them.
-ghost use Rattle.std.specs.Prelude.{◌≡◌, ℕ, ◌<◌, List, Bool, length, slice_get, IfOk};
+ghost use Rattle.std.specs.Prelude.{◌≡◌, ℕ, ◌<◌, List, Bool, length, slice_get, IfOk, IfSome};
 ghost use Rattle.nets.specs.Nets.{ExtendsNet, IsAdded, IsGate, ReadsEarlier, gate_value, truth, truths};
 
-use indexmap::IndexSet;
 use std::alloc::Global;
+use std::collections::HashMap;
 use std::marker::Model;
 use y86_base::Memory;
 
@@ -16,22 +16,40 @@ pub enum Gate {
     And(u64, u64),
 }
 
-/// Finds an equal gate or adds the gate after the others, and returns its number.
-fn place(gates: &mut IndexSet<Gate>, gate: Gate) -> Result<u64, Memory>
-    ensures grows { IsAdded gates.old.keys gates.new.keys gate }
-    ensures found { IfOk result (λ i. slice_get gates.new.keys i ≡ Some gate) }
+/// The number of an equal gate, if the table has it. The two gates are compared, so the answer is right whatever the
+/// table says.
+fn find(gates: &[Gate], numbers: &HashMap<Gate, u64>, gate: Gate) -> Option<u64>
+    ensures { IfSome result (λ i. slice_get gates.now i ≡ Some gate) }
 {
-    match gates.insert_full(gate) {
-        Ok((i, _)) => Ok(i as u64),
-        Err(_) => Err(Memory),
+    let number = *numbers.get(&gate)?;
+    match gates.get(number as usize) {
+        Some(found) if *found == gate => Some(number),
+        _ => None,
     }
+}
+
+/// Finds an equal gate or adds the gate after the others, and returns its number.
+fn place(gates: &mut Vec<Gate>, numbers: &mut HashMap<Gate, u64>, gate: Gate) -> Result<u64, Memory>
+    ensures grows { IsAdded gates.old.items gates.new.items gate }
+    ensures found { IfOk result (λ i. slice_get gates.new.items i ≡ Some gate) }
+{
+    if let Some(number) = find(gates.as_slice(), numbers, gate) {
+        return Ok(number);
+    }
+    let number = gates.len() as u64;
+    if numbers.insert(gate, number).is_err() || gates.push(gate).is_err() {
+        return Err(Memory);
+    }
+    Ok(number)
 }
 
 /// Formulas that share their parts, seen as a number of variables and a list of gates, each over earlier ones.
 #[derive(Drop)]
 pub struct Net {
     vars: u32,
-    gates: IndexSet<Gate>,
+    gates: Vec<Gate>,
+    /// The number of each gate, so that an equal one is found.
+    numbers: HashMap<Gate, u64>,
 }
 
 impl Model for Net {
@@ -39,9 +57,9 @@ impl Model for Net {
 
     ghost Value = { Gates };
 
-    ghost view = { λ n. record { vars = n.vars; gates = n.gates.keys } };
+    ghost view = { λ n. record { vars = n.vars; gates = n.gates.items } };
 
-    ghost invariant = { λ n. IsNet (record { vars = n.vars; gates = n.gates.keys }) };
+    ghost invariant = { λ n. IsNet (record { vars = n.vars; gates = n.gates.items }) };
 }
 
 impl Net {
@@ -52,7 +70,8 @@ impl Net {
     {
         Net {
             vars,
-            gates: IndexSet::new(alloc),
+            gates: Vec::new(alloc),
+            numbers: HashMap::new(alloc),
         }
     }
 
@@ -77,10 +96,7 @@ impl Net {
         ensures earlier { ReadsEarlier self.now.vars i result }
         ensures meaning { (w : List Bool) → truth self.now i w ≡ gate_value w (truths self.now w) result }
     {
-        match self.gates.get_index(i as usize) {
-            Some(gate) => *gate,
-            None => unreachable!(),
-        }
+        self.gates[i as usize]
     }
 
     /// Adds a gate after the others, or finds an equal one.
@@ -91,6 +107,6 @@ impl Net {
         ensures added { IfOk result (λ i. slice_get self.new.gates i ≡ Some gate) }
         ensures meaning { IfOk result (λ i. IsGate self.new i (λ w. gate_value w (truths self.new w) gate)) }
     {
-        place(&mut self.gates, gate)
+        place(&mut self.gates, &mut self.numbers, gate)
     }
 }
