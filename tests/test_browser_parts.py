@@ -8,6 +8,11 @@ from helpers.paths import TOP
 
 # Gaps of 30 under line 3 and of 20 under line 5, and lines of 18: where the lines begin is 0, 18, 36, (54) 84, 102, (120) 140, 158.
 GAPS = "const it = new Gaps(); it.set([{ line: 5, tall: 12 }, { line: 3, tall: 30 }, { line: 5, tall: 8 }]);"
+# What the parts need of the page: its data, empty here.
+PAGE = "globalThis.document = { getElementById: () => ({ textContent: '{}' }) };"
+# A worker that only notes the calls, the first of which hands it the programs.
+WORKER = "let worker; globalThis.Worker = class { constructor() { worker = this; this.ids = []; } postMessage(it) { this.ids.push(it.id); } terminate() {} };"
+TWO_CALLS = f"{WORKER} const it = new Engine(), calls = [it.call('y86', [], {{}}), it.call('y86', [], {{}})];"
 # A module, what is taken from it, a script, and what it returns.
 ROWS = [
     ("gaps above a line", "gaps", "Gaps", f"{GAPS} return [1, 3, 4, 5, 6, 99].map((line) => it.above(line))", [0, 0, 30, 30, 50, 50]),
@@ -19,6 +24,16 @@ ROWS = [
         [1, 1, 2, 3, 3, 3, 4, 4, 5, 5, 5, 5, 6, 6, 7],
     ),
     ("a gap before the first line", "gaps", "Gaps", "const it = new Gaps(); it.set([{ line: 0, tall: 30 }]); return [it.above(1), it.lineAt(30, 18), it.lineAt(48, 18)]", [30, 1, 2]),
+    (
+        "two calls that wait, and each gets its own answer", "engine", "Engine",
+        f"{TWO_CALLS} for (const id of worker.ids.slice(1)) worker.onmessage({{ data: {{ id, out: id }} }}); return [...(await Promise.all(calls)).map((said) => said.out), it.isBusy]",
+        [1, 2, False],
+    ),
+    (
+        "two calls that wait, and both are stopped", "engine", "Engine",
+        f"{TWO_CALLS} it.stop(); return [...(await Promise.allSettled(calls)).map((ended) => ended.status), it.isBusy]",
+        ["rejected", "rejected", False],
+    ),
     ("the datapath of a text", "names", "datapath", "return ['word pc = pValP;', 'word new_pc = valP;', 'word f_pc = F_predPC;', ''].map(datapath)", ["seqplus", "seq", "pipe", "pipe"]),
 ]
 
@@ -26,7 +41,7 @@ ROWS = [
 @cases(ROWS)
 def test_part(row):
     _, module, name, script, wanted = row
-    text = f'import {{ {name} }} from "{TOP}/web/src/{module}.mjs"; console.log(JSON.stringify((() => {{ {script} }})()));'
+    text = f'{PAGE} const {{ {name} }} = await import("{TOP}/web/src/{module}.mjs"); console.log(JSON.stringify(await (async () => {{ {script} }})()));'
     ran = subprocess.run([node(), "--input-type=module"], input=text, capture_output=True, text=True, check=False)
     same((ran.returncode, ran.stderr), (0, ""))
     same(json.loads(ran.stdout), wanted)
