@@ -88,3 +88,11 @@ IsScopeIn n s = HasScope n s.entries.now s.atoms.now s.first
 -- at a valuation, the entries encode control values, and the variables the truths of the atoms
 abbrev pub EncodesScope : Gates → Scope → List Bool → Assignment → (ℕ → Leaf) → Type 0
 EncodesScope n s = EncodesSoFar n s.entries.now s.atoms.now s.first
+
+-- the variables of the atoms are among those of the net
+abbrev pub HasScopeAtoms : Gates → Scope → Type 0
+HasScopeAtoms n s = s.first + length s.atoms.now ≤ n.vars
+
+-- at a valuation, those variables have the truths of the atoms
+abbrev pub ScopeAtomsAre : Scope → List Bool → Assignment → Type 0
+ScopeAtomsAre s = AtomsAre s.atoms.now s.first

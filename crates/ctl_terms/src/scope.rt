@@ -1,9 +1,10 @@
 //! The input of a translation, and the gates of atoms and comparisons.
-ghost use Rattle.std.specs.Prelude.{◌≡◌, ◌<◌, ◌≤◌, ◌+◌, length, List, Bool, IfOk, IsTrue};
+ghost use Rattle.std.specs.Prelude.{◌≡◌, ◌<◌, length, List, Bool, IfOk, IsTrue};
 ghost use Rattle.nets.specs.Nets.{ExtendsNet, truth};
-ghost use Rattle.ctl_atoms.specs.Leaves.{has_atom, AtomsAre, Assignment, open_lt, open_eq, open_atom, is_listed, leaf_lt, leaf_same, leaf_cmp};
+ghost use Rattle.ctl_atoms.specs.Leaves.{has_atom, Assignment, open_lt, open_eq, open_atom, is_listed, leaf_lt, leaf_same, leaf_cmp};
 ghost use Rattle.ctl_atoms.specs.declared.leaf.Leaf.{Leaf};
 ghost use Rattle.ctl_picks.specs.TakenPicks.{IsOnlyTaken, at};
+ghost use Rattle.ctl_terms.specs.Translatable.{HasScopeAtoms, ScopeAtomsAre};
 ghost use Rattle.ctl_terms.specs.Pairs.{row_listed, row_holds, pairs_listed, pairs_hold, leaves_listed};
 ghost use Rattle.ctl_picks.specs.Picks.{Within, leaves_of};
 ghost use Rattle.hcl_types.specs.Lists.{each};
@@ -26,10 +27,10 @@ impl<'a> Scope<'a> {
     /// The gate of an atom.
     fn atom(&self, b: &mut NetBuilder, atom: Atom) -> Result<u64, Memory>
         requires listed { IsTrue (has_atom self.now.atoms.now atom) }
-        requires vars { self.now.first + length self.now.atoms.now ≤ b.old.vars }
+        requires vars { HasScopeAtoms b.old self.now }
         ensures extends { ExtendsNet b.old b.new }
         ensures within { IfOk result (λ g. g < length b.new.gates) }
-        ensures is { (w : List Bool) (α : Assignment) → AtomsAre self.now.atoms.now self.now.first w α →
+        ensures is { (w : List Bool) (α : Assignment) → ScopeAtomsAre self.now w α →
             IfOk result (λ g. truth b.new g w ≡ α atom.kind atom.left atom.right) }
     {
         let vars = b.vars();
@@ -42,10 +43,10 @@ impl<'a> Scope<'a> {
     /// The gate of `x < y`.
     fn less(&self, b: &mut NetBuilder, x: Leaf, y: Leaf) -> Result<u64, Memory>
         requires listed { IsTrue (is_listed self.now.atoms.now (open_lt x y)) }
-        requires vars { self.now.first + length self.now.atoms.now ≤ b.old.vars }
+        requires vars { HasScopeAtoms b.old self.now }
         ensures extends { ExtendsNet b.old b.new }
         ensures within { IfOk result (λ g. g < length b.new.gates) }
-        ensures is { (w : List Bool) (α : Assignment) → AtomsAre self.now.atoms.now self.now.first w α →
+        ensures is { (w : List Bool) (α : Assignment) → ScopeAtomsAre self.now w α →
             IfOk result (λ g. truth b.new g w ≡ leaf_lt α x y) }
     {
         match atom_at(CmpOp::Lt, x, y) {
@@ -57,10 +58,10 @@ impl<'a> Scope<'a> {
     /// The gate of `x == y`.
     fn same(&self, b: &mut NetBuilder, x: Leaf, y: Leaf) -> Result<u64, Memory>
         requires listed { IsTrue (is_listed self.now.atoms.now (open_eq x y)) }
-        requires vars { self.now.first + length self.now.atoms.now ≤ b.old.vars }
+        requires vars { HasScopeAtoms b.old self.now }
         ensures extends { ExtendsNet b.old b.new }
         ensures within { IfOk result (λ g. g < length b.new.gates) }
-        ensures is { (w : List Bool) (α : Assignment) → AtomsAre self.now.atoms.now self.now.first w α →
+        ensures is { (w : List Bool) (α : Assignment) → ScopeAtomsAre self.now w α →
             IfOk result (λ g. truth b.new g w ≡ leaf_same α x y) }
     {
         match atom_at(CmpOp::Eq, x, y) {
@@ -72,10 +73,10 @@ impl<'a> Scope<'a> {
     /// The gate of a comparison of two leaves.
     pub fn leaf_cmp(&self, b: &mut NetBuilder, op: CmpOp, x: Leaf, y: Leaf) -> Result<u64, Memory>
         requires listed { IsTrue (is_listed self.now.atoms.now (open_atom op x y)) }
-        requires vars { self.now.first + length self.now.atoms.now ≤ b.old.vars }
+        requires vars { HasScopeAtoms b.old self.now }
         ensures extends { ExtendsNet b.old b.new }
         ensures within { IfOk result (λ g. g < length b.new.gates) }
-        ensures is { (w : List Bool) (α : Assignment) → AtomsAre self.now.atoms.now self.now.first w α →
+        ensures is { (w : List Bool) (α : Assignment) → ScopeAtomsAre self.now w α →
             IfOk result (λ g. truth b.new g w ≡ leaf_cmp α op x y) }
     {
         match op {
@@ -100,11 +101,11 @@ impl<'a> Scope<'a> {
     /// A gate that is true if the leaf has this comparison with a pick whose gate is true.
     fn against(&self, b: &mut NetBuilder, op: CmpOp, x: Leaf, qs: &[Pick]) -> Result<u64, Memory>
         requires listed { IsTrue (row_listed self.now.atoms.now op x qs.now) }
-        requires vars { self.now.first + length self.now.atoms.now ≤ b.old.vars }
+        requires vars { HasScopeAtoms b.old self.now }
         requires gates { Within (length b.old.gates) qs.now }
         ensures extends { ExtendsNet b.old b.new }
         ensures within { IfOk result (λ g. g < length b.new.gates) }
-        ensures is { (w : List Bool) (α : Assignment) → AtomsAre self.now.atoms.now self.now.first w α →
+        ensures is { (w : List Bool) (α : Assignment) → ScopeAtomsAre self.now w α →
             IfOk result (λ g. truth b.new g w ≡ row_holds (at b.old w) α op x qs.now) }
     {
         let mut g = b.constant(false)?;
@@ -119,12 +120,12 @@ impl<'a> Scope<'a> {
     /// A gate that is true if a pick of the first list whose gate is true has this comparison with one of the second.
     fn pairs(&self, b: &mut NetBuilder, op: CmpOp, ps: &[Pick], qs: &[Pick]) -> Result<u64, Memory>
         requires listed { IsTrue (pairs_listed self.now.atoms.now op ps.now qs.now) }
-        requires vars { self.now.first + length self.now.atoms.now ≤ b.old.vars }
+        requires vars { HasScopeAtoms b.old self.now }
         requires left { Within (length b.old.gates) ps.now }
         requires right { Within (length b.old.gates) qs.now }
         ensures extends { ExtendsNet b.old b.new }
         ensures within { IfOk result (λ g. g < length b.new.gates) }
-        ensures is { (w : List Bool) (α : Assignment) → AtomsAre self.now.atoms.now self.now.first w α →
+        ensures is { (w : List Bool) (α : Assignment) → ScopeAtomsAre self.now w α →
             IfOk result (λ g. truth b.new g w ≡ pairs_hold (at b.old w) α op ps.now qs.now) }
     {
         let mut g = b.constant(false)?;
@@ -146,12 +147,12 @@ impl<'a> Scope<'a> {
         qs: &[Pick],
     ) -> Result<u64, Memory>
         requires listed { IsTrue (leaves_listed self.now.atoms.now op (leaves_of ps.now) (leaves_of qs.now)) }
-        requires vars { self.now.first + length self.now.atoms.now ≤ b.old.vars }
+        requires vars { HasScopeAtoms b.old self.now }
         requires left { Within (length b.old.gates) ps.now }
         requires right { Within (length b.old.gates) qs.now }
         ensures extends { ExtendsNet b.old b.new }
         ensures within { IfOk result (λ g. g < length b.new.gates) }
-        ensures is { (w : List Bool) (α : Assignment) (x y : Leaf) → AtomsAre self.now.atoms.now self.now.first w α →
+        ensures is { (w : List Bool) (α : Assignment) (x y : Leaf) → ScopeAtomsAre self.now w α →
             IsOnlyTaken (at b.old w) ps.now x → IsOnlyTaken (at b.old w) qs.now y →
             IfOk result (λ g. truth b.new g w ≡ leaf_cmp α op x y) }
     {
