@@ -173,5 +173,13 @@ def test_worker(programs, folder):
             os.remove(os.path.join(folder, "my.hcl"))
 
 
+def test_worker_output():
+    """The worker takes 96 MiB of output and no more. Output beyond them ends in status 4, and is no answer."""
+    loop = "0x000: 700000000000000000 | loop: jmp loop\n"
+    said, = worker_answers([Call("y86", ["psim", "std.hcl", "loop.yo", "--trace", "--limit", "10000000"], {"std.hcl": designs()["std.hcl"].decode(), "loop.yo": loop})])
+    same((said["status"], said["fault"], said["err"]), (4, "", ""))
+    assert 95 << 20 < len(said["out"]) <= 96 << 20
+
+
 def test_node_is_there():
     assert node()
