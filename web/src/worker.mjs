@@ -4,29 +4,41 @@ import { call } from "./call.mjs";
 const modules = {}, MOST_TEXT = 96 << 20, MOST_MEMORY = 1 << 30;
 const utf8 = new TextEncoder();
 
-/** The parts of an output as one text. By hand, since WebKit reads no Blob in a worker of a page from a file. */
-function whole(parts) {
-  const all = new Uint8Array(parts.reduce((sum, it) => sum + it.length, 0));
-  let at = 0;
-  for (const it of parts) {
-    all.set(it, at);
-    at += it.length;
+/** What a stream was given, in one array that grows: the programs write a few bytes at a time. */
+class Output {
+  constructor() {
+    this.bytes = new Uint8Array(4096);
+    this.length = 0;
   }
-  return new TextDecoder().decode(all);
+
+  add(more) {
+    const length = this.length + more.length;
+    if (length > this.bytes.length) {
+      const larger = new Uint8Array(Math.max(length, 2 * this.bytes.length));
+      larger.set(this.bytes);
+      this.bytes = larger;
+    }
+    this.bytes.set(more, this.length);
+    this.length = length;
+  }
+
+  text() {
+    return new TextDecoder().decode(this.bytes.subarray(0, this.length));
+  }
 }
 
 function answer(program, words, files) {
-  const bytes = {}, parts = [null, [], []];
+  const bytes = {}, outputs = [null, new Output(), new Output()];
   for (const name in files) bytes[name] = utf8.encode(files[name]);
   let room = MOST_TEXT;
   const took = (stream, it) => {
     room -= it.length;
     if (room < 0) return false;
-    parts[stream].push(it);
+    outputs[stream].add(it);
     return true;
   };
   const said = call(modules[program], words, (name) => bytes[name] ?? null, took, MOST_MEMORY);
-  return { ...said, out: whole(parts[1]), err: whole(parts[2]) };
+  return { ...said, out: outputs[1].text(), err: outputs[2].text() };
 }
 
 self.onmessage = ({ data }) => {
