@@ -127,6 +127,17 @@ def test_state(at):
     at.click("#base")
 
 
+def test_decimal_words(at):
+    """A word in decimal is a signed number of 64 bits. A long one is shown without its middle, and its title has it whole."""
+    at.write("ys", "    irmovq $0x4000000000000000, %rax\n    irmovq $0x8000000000000000, %rbx\n    irmovq $-1, %rcx\n    halt\n")
+    at.click("#end")
+    at.click("#base")
+    same(at.do("every('#registers div').map((it) => it.textContent)"), ["%rax461168…87904", "%rcx-1", "%rbx-92233…75808"])
+    titles = at.do("every('#registers div').map((it) => it.title.split(',')[0])")
+    same(titles, ["%rax = 0x4000000000000000 = 4611686018427387904", "%rcx = 0xffffffffffffffff = -1", "%rbx = 0x8000000000000000 = -9223372036854775808"])
+    at.click("#base")
+
+
 # ---- a refusal
 
 # A mistake, the obligation, what the card says, and its program.
