@@ -1,4 +1,4 @@
-"""Proves the crates that programs need, and the laws on them, and builds the programs. As a script it prints how many jobs the prover can do at once."""
+"""Proves the crates that programs need, and the laws on them, and builds the programs. As a script it prints RT_JOBS for `rt ci`."""
 import os
 import re
 import shutil
@@ -12,6 +12,8 @@ from programs import laws_on
 
 # A job of the prover takes up to so much memory, in bytes.
 OF_A_JOB = 2_000_000_000
+# `rt ci` expects up to so much of a crate, on average over those that it proves at once.
+EXPECTED_OF_A_CRATE = 4_500_000_000
 # A line comes at least so often, in seconds.
 SILENT_FOR = 60
 # What `rt ci` says of a crate.
@@ -62,16 +64,33 @@ def number_in(file, pattern):
         return None
 
 
-def jobs_at_once():
-    """Returns how many jobs the machine has processors and free memory for."""
+def processors():
+    """Returns how many processors this process may use."""
     number = len(os.sched_getaffinity(0))
     quota, period = number_in("/sys/fs/cgroup/cpu.max", r"^(\d+)"), number_in("/sys/fs/cgroup/cpu.max", r" (\d+)")
-    if quota and period:
-        number = min(number, quota // period)
+    return max(min(number, quota // period), 1) if quota and period else number
+
+
+def free_memory():
+    """Returns the free memory in bytes, or None if the system doesn't say."""
     free = number_in("/proc/meminfo", r"^MemAvailable:\s+(\d+)")
-    if free:
-        number = min(number, 1024 * free // OF_A_JOB)
-    return max(number, 1)
+    return free and 1024 * free
+
+
+def jobs_at_once():
+    """Returns how many jobs the machine has processors and free memory for."""
+    free = free_memory()
+    return max(min(processors(), free // OF_A_JOB), 1) if free else processors()
+
+
+def jobs_for_gate():
+    """Returns the value of RT_JOBS for `rt ci`: empty if it can divide the processors itself, and else the number of jobs at once.
+
+    By its own estimate of memory, `rt ci` leaves processors idle if there isn't plenty.
+    Where there is, it is better without RT_JOBS: a crate that all others wait for then gets several processors.
+    """
+    free = free_memory()
+    return "" if free and free >= processors() * EXPECTED_OF_A_CRATE else str(jobs_at_once())
 
 
 def copied(here, crates, room):
@@ -93,8 +112,7 @@ class Proof:
         self.log, self.number, self.told = log, number, []
         with open(log, "wb") as to:
             how = {"cwd": room, "stdin": subprocess.DEVNULL, "stdout": to, "stderr": subprocess.STDOUT, "start_new_session": True}
-            # (by its own estimate of memory, rt leaves processors idle)
-            self.command = subprocess.Popen(["rt", "ci"], env={**os.environ, "RT_JOBS": str(jobs_at_once())}, **how)
+            self.command = subprocess.Popen(["rt", "ci"], env={**os.environ, "RT_JOBS": jobs_for_gate()}, **how)
         self.start = self.last = time.monotonic()
 
     def since(self):
@@ -219,4 +237,4 @@ def build(here, programs):
 
 
 if __name__ == "__main__":
-    print(jobs_at_once())
+    print(jobs_for_gate())

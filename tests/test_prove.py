@@ -9,7 +9,7 @@ import pytest
 
 from helpers.cases import same
 from helpers.repository import CHANGED, COMPILED, PROGRAM, Repository, first_line
-from proving import jobs_at_once
+from proving import jobs_at_once, jobs_for_gate, processors
 
 ALL = ("low", "left", "right", "high", "y86")
 BUILT = "y86: y86 is built, and no source has changed since\n"
@@ -143,7 +143,14 @@ def test_that_several_are_built_is_said(repository):
 
 
 def test_the_jobs_fit_the_machine():
-    assert 1 <= jobs_at_once() <= len(os.sched_getaffinity(0))
+    assert 1 <= jobs_at_once() <= processors() <= len(os.sched_getaffinity(0))
+
+
+@pytest.mark.parametrize("memory, is_told", [(None, True), (17_000_000_000, True), (18_000_000_000, False)])
+def test_rt_divides_four_processors_itself_if_there_is_memory_for_it(monkeypatch, memory, is_told):
+    monkeypatch.setattr("proving.processors", lambda: 4)
+    monkeypatch.setattr("proving.free_memory", lambda: memory)
+    assert jobs_for_gate() == ("4" if is_told else "")
 
 
 # ---- the program is built, and sources change

@@ -1,6 +1,6 @@
 -- What a run of PIPE answers: the code's drive is a run of the definition, and a drive that stopped at a failed write
 -- could have been continued to one.
-use Rattle.std.proofs.Common.{◌≡◌, ℕ, zero, suc, ◌+◌, ◌-◌, ◌<◌, ◌≤◌, Bool, true, false, List, [], ◌∷◌, ◌++◌, length, replicate, Option, refl, sym, ap, subst, ◌∙◌, arith, length-append, append_assoc}
+use Rattle.std.proofs.Common.{◌≡◌, ℕ, zero, suc, ◌+◌, ◌-◌, ◌≤◌, Bool, true, false, List, [], ◌∷◌, ◌++◌, length, Option, refl, sym, ap, subst, ◌∙◌, arith, length-append, append_assoc}
 use Rattle.std.proofs.lemmas.List.{append-nil}
 use Rattle.std.proofs.Math.Seq.{take-append-add}
 use Rattle.std.specs.Option.{option_to_list}
@@ -12,12 +12,10 @@ use Rattle.y86_isa.specs.Machine.{is_aok}
 use Rattle.y86_isa.specs.declared.machine.Machine.{Machine}
 use Rattle.y86_isa.specs.declared.machine.Rec.{Rec}
 use Rattle.hcl_types.specs.Tables.{IsBound, IsOrderOf}
-use Rattle.hcl_types.specs.Terms.{at}
 use Rattle.hcl_types.specs.declared.term.Term.{Term}
 use Rattle.dp_signals.proofs.PipeRules.{pipe_solves}
 use Rattle.dp_signals.specs.PipeCycle.{retires}
-use Rattle.dp_signals.specs.Equations.{values_along}
-use Rattle.dp_signals.specs.PipeEquations.{Solves, given, pipe_rule}
+use Rattle.dp_signals.specs.PipeEquations.{Solves}
 use Rattle.dp_signals.specs.PipeRun as run
 use Rattle.dp_signals.specs.PipeTable.{pipe_rows}
 use Rattle.pipe_path.specs.Pipe as pipe
@@ -41,6 +39,22 @@ record GoesOn (v : Variant) (terms : List Term) (image : List ℕ) (limit : ℕ)
   rest : List Rec
   runs : RunsTo v terms image limit cycles last
   behind : last.records ≡ records ++ rest
+
+-- one cycle more
+one_more : (v : Variant) (terms : List Term) (image : List ℕ) (k : ℕ) (p : run.PipeHistory) (f : ℕ → ℕ) → Solves v terms p.state f → is_aok p.end ≡ true →
+    RunsFor v terms image k p → RunsFor v terms image (suc k) (run.after_cycle p f)
+one_more v terms image k p f solved going goes =
+    (p, goes, going, record { ended = λ over. absurd (grind (arith, over, going)); goes = λ _. (f, solved, refl) })
+
+behind_one : (v : Variant) (terms : List Term) (image : List ℕ) (limit : ℕ) (p : run.PipeHistory) (f : ℕ → ℕ) →
+    GoesOn v terms image limit (run.after_cycle p f).records → GoesOn v terms image limit p.records
+behind_one v terms image limit p f on = record {
+  cycles = on.cycles;
+  last = on.last;
+  rest = option_to_list (retires p.state f) ++ on.rest;
+  runs = on.runs;
+  behind = on.behind ∙ append_assoc p.records (option_to_list (retires p.state f)) on.rest;
+}
 
 goes_on : (v : Variant) (terms : List Term) (ids image : List ℕ) → IsBound pipe_rows terms → IsOrderOf pipe_rows terms ids →
     (n limit k : ℕ) (p : run.PipeHistory) → k + n ≡ limit → RunsFor v terms image k p → GoesOn v terms image limit p.records
@@ -66,18 +80,7 @@ goes_on v terms ids image bound ordered (suc n) limit k p sum goes =
           behind = sym (append-nil p.records);
         }
     by true going more =
-        let f : ℕ → ℕ = at (values_along (pipe_rule v terms p.state) (given p.state ++ replicate 50 0) ids) in
-        let solved : Solves v terms p.state f = pipe_solves v p.state terms ids bound ordered in
-        let q : run.PipeHistory = run.after_cycle p f in
-        let on : GoesOn v terms image limit q.records =
-        more q (p, goes, going, record { ended = λ over. absurd (grind (arith, over, going)); goes = λ _. (f, solved, refl) }) in
-        record {
-          cycles = on.cycles;
-          last = on.last;
-          rest = option_to_list (retires p.state f) ++ on.rest;
-          runs = on.runs;
-          behind = on.behind ∙ append_assoc p.records (option_to_list (retires p.state f)) on.rest;
-        }
+        behind_one v terms image limit p _ (more _ (one_more v terms image k p _ (pipe_solves v p.state terms ids bound ordered) going goes))
 
 -- ---- the output
 
@@ -115,6 +118,10 @@ pipe_part v terms order image limit trace m q d records first last before after 
   one_fault = one_fault;
 }
 
+-- the counts and the report behind the trace of a run
+abbrev told_of : List ℕ → ℕ → run.PipeHistory → List ℕ
+told_of image cycles p = ran_line cycles (length p.records) ++ report image (end_of p) (length p.records)
+
 -- the trace of some records, of another record, and of the rest
 traced_parts : (records rest : List Rec) (last : Rec) (more : List ℕ) →
     ((drive.traced true records ++ trace_line last) ++ drive.traced true rest) ++ more ≡ drive.traced true ((records ++ last ∷ []) ++ rest) ++ more
@@ -123,29 +130,36 @@ traced_parts records rest last more =
     (sym (traced_append true (records ++ last ∷ []) rest
     ∙ ap (λ x. x ++ drive.traced true rest) (traced_append true records (last ∷ []) ∙ ap (λ x. drive.traced true records ++ x) (traced_one last))))
 
+-- a drive that stopped at a failed write, and a run that goes on from there
+broken_by : (v : Variant) (terms : List Term) (image : List ℕ) (limit : ℕ) (trace : Bool) (m q : pipe.PipeMachine) (before after : SinkState) (k : ℕ)
+    (records : List Rec) (last : Rec) (n : ℕ) → GoesOn v terms image limit (records ++ last ∷ []) →
+    drive.IsFailedDrive m limit trace q before.taken after.taken k records last n → after.faults ≡ counted before.faults →
+    WrotePart (PipeAnswers v terms limit trace [] image) before after
+broken_by v terms image limit trace m q before after k records last n on fails one_fault = record {
+  answer = done (run_status on.last.end) (run_text trace image on.cycles on.last);
+  allowed = (on.cycles, on.last, on.runs, refl);
+  went = subst (λ x. AppendedPrefix before.taken after.taken x)
+      (traced_parts records on.rest last (told_of image on.cycles on.last)
+      ∙ (ap (λ x. drive.traced true x ++ told_of image on.cycles on.last) (sym on.behind)
+      ∙ ap (λ b. drive.traced b on.last.records ++ told_of image on.cycles on.last) (sym fails.asked)))
+      (part_more _ _ _ (told_of image on.cycles on.last) (part_more _ _ _ (drive.traced true on.rest) (
+        length (drive.traced true records) + n,
+        omega (arith, fails.proper, length-append (drive.traced true records) (trace_line last)),
+        rw (take-append-add (drive.traced true records) (trace_line last) n) fails.taken,
+      )));
+  one_fault = one_fault;
+}
+
 pub pipe_broken : (v : Variant) (terms : List Term) (order image : List ℕ) → IsBound pipe_rows terms → IsOrderOf pipe_rows terms order →
     (limit : ℕ) (trace : Bool) (m q : pipe.PipeMachine) (before after : SinkState) (k : ℕ) (records : List Rec) (last : Rec) (n : ℕ) →
     m ≡ pipe.started v terms order image → drive.IsFailedDrive m limit trace q before.taken after.taken k records last n →
     after.faults ≡ counted before.faults → WrotePart (PipeAnswers v terms limit trace [] image) before after
 pipe_broken v terms order image bound ordered limit trace m q before after k records last n begun fails one_fault =
-    let goes = (driven v terms order image k q (records ++ last ∷ []) (subst (λ x. drive.CallsFor x k q (records ++ last ∷ [])) begun fails.goes)).goes in
     let within : k ≤ limit = fails.within in
-    let on = goes_on v terms order image bound ordered (limit - k) limit k (machine q (records ++ last ∷ [])) (omega (arith, within)) goes in
-    let told : List ℕ = ran_line on.cycles (length on.last.records) ++ report image (end_of on.last) (length on.last.records) in
-    let proper : n < length (trace_line last) = fails.proper in
-    let part : AppendedPrefix before.taken after.taken (drive.traced true records ++ trace_line last) = (
-      length (drive.traced true records) + n,
-      omega (arith, proper, length-append (drive.traced true records) (trace_line last)),
-      rw (take-append-add (drive.traced true records) (trace_line last) n) fails.taken,
-    ) in
-    let text : ((drive.traced true records ++ trace_line last) ++ drive.traced true on.rest) ++ told ≡ run_text trace image on.cycles on.last =
-    traced_parts records on.rest last told ∙ ap (λ x. drive.traced true x ++ told) (sym on.behind) ∙ ap (λ b. drive.traced b on.last.records ++ told) (sym fails.asked) in
-    record {
-      answer = done (run_status on.last.end) (run_text trace image on.cycles on.last);
-      allowed = (on.cycles, on.last, on.runs, refl);
-      went = subst (λ x. AppendedPrefix before.taken after.taken x) text (part_more _ _ _ told (part_more _ _ _ (drive.traced true on.rest) part));
-      one_fault = one_fault;
-    }
+    broken_by v terms image limit trace m q before after k records last n
+        (goes_on v terms order image bound ordered (limit - k) limit k (machine q (records ++ last ∷ [])) (omega (arith, within))
+        (driven v terms order image k q (records ++ last ∷ []) (subst (λ x. drive.CallsFor x k q (records ++ last ∷ [])) begun fails.goes)).goes)
+        fails one_fault
 
 -- ---- after the text of a verdict
 

@@ -1,7 +1,8 @@
 //! `psim`: runs an object file on PIPE under an HCL file.
 ghost use Rattle.std.specs.Prelude.{◌≡◌, ◌<◌, ◌≤◌, ◌^◌, ◌++◌, List, ℕ, length};
 ghost use Rattle.dp_signals.specs.PipeTable.{pipe_rows};
-ghost use Rattle.hcl_types.specs.Tables.{IsBoundDesign};
+ghost use Rattle.hcl_types.specs.Tables.{IsBound, IsBoundDesign, IsOrderOf};
+ghost use Rattle.pipe_path.specs.Pipe as pipe;
 ghost use Rattle.wb_io.specs.Causes.{CountsFaults};
 ghost use Rattle.wb_io.specs.Sinks.{AppendsText};
 ghost use Rattle.y86_base.specs.Image.{IsSize};
@@ -15,7 +16,7 @@ use cli_plans::{FILE_LIMIT, StopReason, load_image, pipe_file, read_file, status
 use cli_verdicts::{PipeVerdictText, pipe_verdict};
 use dp_signals::constant_words;
 use hcl_compile::compile;
-use hcl_types::BoundDesign;
+use hcl_types::{BoundDesign, SignalEval};
 use pipe_path::Pipe;
 use retire_trace::{Drove, drive};
 use std::alloc::Global;
@@ -53,6 +54,38 @@ fn put_end<O: Sink>(drove: Drove, first: &Image, end: &End<'_>, out: &mut O) -> 
     report(first, end, drove.retired, out)
 }
 
+/// Writes the text of a verdict, runs a new machine, with a trace if it is asked for, and writes the counts and the
+/// report. It allocates no memory.
+#[inline(always)]
+fn run_machine<'a, C: SignalEval, O: Sink>(
+    machine: &mut Pipe<C>,
+    first: &Image,
+    request: PipeRequest<'_>,
+    verdict: &[u8],
+    out: &mut O,
+) -> Result<u8, StopReason<'a>>
+    requires started { machine.old ≡ pipe.started machine.old.variant machine.old.terms machine.old.order first.now }
+    requires bound { IsBound pipe_rows machine.old.terms }
+    requires ordered { IsOrderOf pipe_rows machine.old.terms machine.old.order }
+    requires limit { request.run.limit < 2 ^ 63 }
+    ensures { WritesAnswerOn O.taken O.faults (PipeAnswers machine.old.variant machine.old.terms request.entry.run.limit request.entry.trace verdict.now first.now)
+        out.old out.new result }
+{
+    match put_all(out, verdict) {
+        Ok(()) => {}
+        Err(_) => return Err(StopReason::Write),
+    }
+    let drove = match drive(machine, request.run.limit, request.trace, out) {
+        Ok(drove) => drove,
+        Err(_) => return Err(StopReason::Write),
+    };
+    let end = machine.end();
+    match put_end(drove, first, &end, out) {
+        Ok(()) => Ok(status(drove.end)),
+        Err(_) => Err(StopReason::Write),
+    }
+}
+
 /// Writes the text of a verdict, runs an image on PIPE, with a trace if it is asked for, and writes the counts and the
 /// report. All memory is allocated before anything is written. The loop has a function of its own, so that it can use
 /// all registers of the processor.
@@ -78,19 +111,7 @@ pub fn run_pipe<'a, O: Sink>(
         return Err(StopReason::Memory);
     };
     let mut machine = Pipe::new(request.run.variant, ordered, compiled, image);
-    match put_all(out, verdict) {
-        Ok(()) => {}
-        Err(_) => return Err(StopReason::Write),
-    }
-    let drove = match drive(&mut machine, request.run.limit, request.trace, out) {
-        Ok(drove) => drove,
-        Err(_) => return Err(StopReason::Write),
-    };
-    let end = machine.end();
-    match put_end(drove, &first, &end, out) {
-        Ok(()) => Ok(status(drove.end)),
-        Err(_) => Err(StopReason::Write),
-    }
+    run_machine(&mut machine, &first, request, verdict, out)
 }
 
 /// Reads an object file and runs it on PIPE under a design, after the text of a verdict.

@@ -2,6 +2,8 @@
 ghost use Rattle.std.specs.Prelude.{◌≡◌, List, ℕ};
 ghost use Rattle.dp_signals.specs.SeqTable.{seq_rows};
 ghost use Rattle.hcl_types.specs.Tables.{IsBoundDesign};
+ghost use Rattle.seq_path.specs.Seq as seq;
+ghost use Rattle.seq_plus.specs.Plus as plus;
 ghost use Rattle.seq_plus.specs.PlusTable.{plus_rows};
 ghost use Rattle.y86_base.specs.Image.{IsSize};
 ghost use Rattle.cli_runs.specs.Answers.{SeqAnswers, seq_plan, ssim_plan};
@@ -13,13 +15,32 @@ use crate::request::RunRequest;
 use cli_plans::{FILE_LIMIT, StopReason, load_image, read_file, seq_file, status};
 use dp_signals::constant_words;
 use hcl_compile::compile;
-use hcl_types::{BoundDesign, SequentialDatapath};
+use hcl_types::{BoundDesign, SequentialDatapath, SignalEval};
 use seq_path::Seq;
 use seq_plus::Plus;
 use std::alloc::Global;
 use wb_io::{Files, Sink};
 use y86_base::{Image, Variant};
 use yis_run::{End, report};
+
+/// Runs a new machine of SEQ and writes the report. It allocates no memory.
+#[inline(always)]
+fn run_seq_machine<'a, C: SignalEval, O: Sink>(
+    machine: &mut Seq<C>,
+    limit: u64,
+    first: &Image,
+    out: &mut O,
+) -> Result<u8, StopReason<'a>>
+    requires { machine.old ≡ seq.started machine.old.variant machine.old.terms machine.old.order first.now }
+    ensures { WritesAnswerOn O.taken O.faults (SeqAnswers OnSeq machine.old.variant machine.old.terms limit first.now) out.old out.new result }
+{
+    let ran = seq_path::run(machine, limit);
+    let end = End::of(machine.state());
+    match report(first, &end, ran.steps, out) {
+        Ok(()) => Ok(status(end.stat)),
+        Err(_) => Err(StopReason::Write),
+    }
+}
 
 /// Runs an image on SEQ and writes the report. All memory is allocated before the first cycle. The loops of SEQ and
 /// SEQ+ are separate functions, so that each can use all registers of the processor.
@@ -43,9 +64,24 @@ fn run_seq<'a, O: Sink>(
         return Err(StopReason::Memory);
     };
     let mut machine = Seq::new(variant, ordered, compiled, image);
-    let ran = seq_path::run(&mut machine, limit);
-    let end = End::of(machine.state());
-    match report(&first, &end, ran.steps, out) {
+    run_seq_machine(&mut machine, limit, &first, out)
+}
+
+/// Runs a new machine of SEQ+ and writes the report. It allocates no memory.
+#[inline(always)]
+fn run_plus_machine<'a, C: SignalEval, O: Sink>(
+    machine: &mut Plus<C>,
+    limit: u64,
+    first: &Image,
+    out: &mut O,
+) -> Result<u8, StopReason<'a>>
+    requires { machine.old ≡ plus.started machine.old.variant machine.old.terms machine.old.order first.now }
+    ensures { WritesAnswerOn O.taken O.faults (SeqAnswers OnPlus machine.old.variant machine.old.terms limit first.now) out.old out.new result }
+{
+    let ran = seq_plus::run(machine, limit);
+    let pc = machine.pc();
+    let end = machine.end(pc);
+    match report(first, &end, ran.steps, out) {
         Ok(()) => Ok(status(end.stat)),
         Err(_) => Err(StopReason::Write),
     }
@@ -72,13 +108,7 @@ fn run_plus<'a, O: Sink>(
         return Err(StopReason::Memory);
     };
     let mut machine = Plus::new(variant, ordered, compiled, image);
-    let ran = seq_plus::run(&mut machine, limit);
-    let pc = machine.pc();
-    let end = machine.end(pc);
-    match report(&first, &end, ran.steps, out) {
-        Ok(()) => Ok(status(end.stat)),
-        Err(_) => Err(StopReason::Write),
-    }
+    run_plus_machine(&mut machine, limit, &first, out)
 }
 
 /// Runs an image on a sequential datapath and writes the report.
