@@ -167,7 +167,7 @@ def taken_over(here, room, crates, programs):
         os.makedirs(out, exist_ok=True)
         if os.path.isdir(f"{made}/rlib"):
             shutil.rmtree(f"{out}/rlib", ignore_errors=True)
-            shutil.copytree(f"{made}/rlib", f"{out}/rlib")
+            shutil.move(f"{made}/rlib", f"{out}/rlib")
         if name in programs:
             # (a program that is half written isn't taken for one that is built)
             shutil.copy(f"{made}/{name}", f"{out}/{name}.{os.getpid()}")
