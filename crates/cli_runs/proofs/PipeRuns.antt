@@ -157,9 +157,9 @@ pub pipe_broken : (v : Variant) (terms : List Term) (order image : List ℕ) →
 pipe_broken v terms order image bound ordered limit trace m q before after k records last n begun fails one_fault =
     let within : k ≤ limit = fails.within in
     broken_by v terms image limit trace m q before after k records last n
-        (goes_on v terms order image bound ordered (limit - k) limit k (machine q (records ++ last ∷ [])) (omega (arith, within))
-        (driven v terms order image k q (records ++ last ∷ []) (subst (λ x. drive.CallsFor x k q (records ++ last ∷ [])) begun fails.goes)).goes)
-        fails one_fault
+    (goes_on v terms order image bound ordered (limit - k) limit k (machine q (records ++ last ∷ [])) (omega (arith, within))
+    (driven v terms order image k q (records ++ last ∷ []) (subst (λ x. drive.CallsFor x k q (records ++ last ∷ [])) begun fails.goes)).goes)
+    fails one_fault
 
 -- ---- after the text of a verdict
 

@@ -26,6 +26,10 @@ pub fn scene_of<'a>(
     refusal: &'a Refusal,
     refutation: &'a Refutation,
 ) -> Scene<'a>
+    ensures variant { result.variant ≡ variant }
+    ensures settings { result.settings.now ≡ refusal.now.settings }
+    ensures rows { result.values.rows.now ≡ file.now.rows.now }
+    ensures terms { result.values.terms.now ≡ file.now.terms.now }
     ensures bits { result.values.bits.now ≡ refutation.now.valuation.bits }
     ensures leaves { result.values.leaves.now ≡ refutation.now.diagnosis.leaves }
     ensures atoms { result.values.atoms.now ≡ refusal.now.atoms }
@@ -60,7 +64,10 @@ impl<'a> Scene<'a> {
 
     /// The terms at this counterexample.
     pub fn scope(&self) -> Scope<'a>
-        ensures { result.first ≤ 1000 }
+        ensures atoms { result.atoms.now ≡ self.now.values.atoms.now }
+        ensures first { result.first ≤ 1000 }
+        ensures bits { result.bits.now ≡ self.now.values.bits.now }
+        ensures leaves { result.leaves.now ≡ self.now.values.leaves.now }
     {
         Scope {
             atoms: self.values.atoms,

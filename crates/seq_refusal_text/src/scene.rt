@@ -2,6 +2,8 @@
 ghost use Rattle.std.specs.Prelude.{◌≡◌};
 ghost use Rattle.hcl_types.specs.declared.table.Datapath.TheVariants as path;
 ghost use Rattle.hcl_types.specs.declared.table.SequentialDatapath.TheVariants as datapath;
+ghost use Rattle.net_fields.specs.FieldSpecs.{total};
+ghost use Rattle.seq_check.specs.Datapaths.{defined_of, spots_of};
 
 use explanations::{Obligation, obligation_at};
 use finding_text::{ExplainedFile, Values, first_alone, put_wrong};
@@ -34,6 +36,10 @@ pub fn values_of<'a>(
     refusal: &'a Refusal,
     refutation: &'a Refutation,
 ) -> Values<'a>
+    ensures rows { result.rows.now ≡ file.now.rows.now }
+    ensures terms { result.terms.now ≡ file.now.terms.now }
+    ensures defined { result.defined ≡ defined_of which }
+    ensures first { result.first ≡ total (spots_of which) }
     ensures bits { result.bits.now ≡ refutation.now.valuation.bits }
     ensures leaves { result.leaves.now ≡ refutation.now.diagnosis.leaves }
     ensures atoms { result.atoms.now ≡ refusal.now.atoms }

@@ -37,6 +37,7 @@ pub struct ShowMatches {
 impl ShowMatches {
     /// Whether nothing has the name.
     pub fn is_empty(&self) -> bool
+        ensures nothing { self.now.obligations.items ≡ [] → self.now.instructions.items ≡ [] → self.now.signals.items ≡ [] → self.now.faults.items ≡ [] → result ≡ true }
         ensures obligations { result ≡ true → self.now.obligations.items ≡ [] }
         ensures instructions { result ≡ true → self.now.instructions.items ≡ [] }
         ensures signals { result ≡ true → self.now.signals.items ≡ [] }
