@@ -21,7 +21,7 @@ class Aag:
 
 
 def draws(seed, vector, count):
-    """Bits of the further inputs of a vector: x = 6364136223846793005 x + 1442695040888963407, and of it the bits from 33 on."""
+    """Bits of the further inputs of a vector: bit 33 of each x = 6364136223846793005 x + 1442695040888963407, modulo 2^64."""
     x, bits = (seed + vector) % 2**64, []
     for _ in range(count):
         x = (x * 6364136223846793005 + 1442695040888963407) % 2**64

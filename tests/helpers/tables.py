@@ -1,8 +1,8 @@
 """What follows from the tables of signals, fields and obligations: rows by number, places of bits, lengths.
 
 `python3 tests/helpers/tables.py` writes it into the sources, and a test compares it. So a new row of a table changes no number by hand.
-Each side has its own tables: what a definition (`.antt`) needs is taken from definitions, and what code (`.rt`) needs from code. The bits of a field are
-the exception: code has them from the definitions.
+Each side has its own tables: what a definition (`.antt`) needs is taken from definitions, and what code (`.rt`) needs from code. The exceptions are the
+bits of PIPE's fields, and the fields of the line S of SEQ and SEQ+: code has them from the definitions.
 """
 import re
 import sys
