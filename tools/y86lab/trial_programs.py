@@ -1,6 +1,7 @@
 """Programs that try a processor: some made for what random ones miss, pairs of an instruction and its use, random ones.
 
-A program is a list of lines of assembly. None writes its own code: data and stack are above 0x400.
+A program is a list of lines of assembly. Data and stack are above 0x400, so few programs write their own code:
+only some that set `%rsp` to an address of the code.
 """
 from __future__ import annotations
 

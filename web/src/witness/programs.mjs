@@ -1,5 +1,6 @@
 // Programs that try a processor: a small list made for what random programs miss, pairs of an instruction and its use,
-// and random ones. A program is a list of lines of assembly. None writes its own code: data and stack are above 0x400.
+// and random ones. A program is a list of lines of assembly. Data and stack are above 0x400, so few programs write
+// their own code: only some that set %rsp to an address of the code.
 
 const REGISTERS = ["%rax", "%rcx", "%rdx", "%rbx", "%rsi", "%rdi", "%r8", "%r9"];
 const CONDITIONS = ["le", "l", "e", "ne", "ge", "g"];
