@@ -45,8 +45,8 @@ echo "| \`big 100000 std.hcl\`: $("$here/y86" big 100000 "$here/examples/designs
 
 echo "| \`sample std.hcl 7 1000000\`, the whole call | $(fastest sample "$here/examples/designs/std.hcl" 7 1000000) s |"
 
-# A row of the table: a request to the program of measures, which stands where the gate built it, with how many things it does and how they are told.
-# The time is that of the processor in the fastest of three calls, so that other work beside it matters less.
+# Prints a row of the table: $1 is a request to the program of measures, if the gate has built it. $2 is how many things the request does, and $3 the
+# format of their number in a second. The time is that of the processor in the fastest of three calls, so that other work beside it matters less.
 measure() {
     [ -x "$here/crates/bench/out/bench" ] || return
     seconds=$(for _ in 1 2 3; do

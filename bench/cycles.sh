@@ -1,7 +1,7 @@
 #!/usr/bin/env bash
 # Checks the pipeline designs of examples/, and runs its programs under each that is accepted. It prints the cycles of each run, and ends with 1
 # where a report isn't that of `yis`, a trace isn't the same under all designs, a design is refused (but for stall_and_bubble.hcl, which has to be), or a run
-# behind a check has another text than the verdict and the run. The program is ./y86, or the one that is given.
+# after a check prints anything but the verdict and the run. The program is ./y86, or the one that is given.
 here=$(cd "$(dirname "$0")/.." && pwd) || exit 1
 y86=$(realpath "${1:-$here/y86}") || exit 1
 cd "$here/examples/designs" || exit 1

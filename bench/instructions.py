@@ -55,7 +55,7 @@ test:
 """,
 }
 
-# What is called, the words behind the loop, and the two lengths.
+# What is counted, the arguments before the loop's file and after it, and the two lengths.
 CALLS = (
     ("`yis`, a step", ("yis",), (), (10000, 60000)),
     ("`ssim seq.hcl`, a cycle", ("ssim", f"{DESIGNS}/seq.hcl"), (), (2000, 12000)),
