@@ -27,7 +27,7 @@ export function trace(text) {
     if (!it) continue;
     const changes = [...it[3].matchAll(/(%\w+|\[0x[0-9a-f]+\])=(0x[0-9a-f]+)/g)]
       .map(([, name, word]) => ({ name: name.replace(/^\[0x0+(?=[0-9a-f])/, "[0x"), word: short(word) }));
-    found.push({ line, pc: parseInt(it[1], 16), code: it[2], changes, flags: it[4], status: it[5] });
+    found.push({ pc: parseInt(it[1], 16), code: it[2], changes, flags: it[4], status: it[5] });
   }
   return found;
 }

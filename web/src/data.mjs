@@ -11,7 +11,7 @@ export function example(which, name) {
   return EXAMPLES[which].flatMap(([, list]) => list).find((it) => it.name === name);
 }
 
-/** The program's text of the page's data, unpacked. */
+/** The bytes of a program, unpacked from the page's data. */
 export async function unpacked(base64) {
   const packed = Uint8Array.from(atob(base64), (it) => it.charCodeAt(0));
   return new Response(new Blob([packed]).stream().pipeThrough(new DecompressionStream("gzip"))).arrayBuffer();

@@ -8,7 +8,7 @@ export const state = {
   own: {},
   // The program that "Find one" has drawn, with its name, or null.
   found: null,
-  // { at, kind: yes, no, fault, none; rule, told, lines, faults }
+  // { at, kind: yes, no, fault, none }; of a no also { rule, told, refusals, lines, path, of }, of a fault { faults }.
   verdict: null,
   // What run.mjs reads, or null.
   run: null,
@@ -26,7 +26,11 @@ export const state = {
 
 const listeners = {};
 
-/** Calls a function at each event of this name: text, stale, verdict, run, cycle, tab, breaks, base. */
+/**
+ * Calls a function at each event of this name. The page has changed: text, stale (an answer is out of date), verdict,
+ * run, cycle, tab, breaks, base, grid, rows, wrong (the number of the first wrong instruction). A button asks for
+ * something: why, refusal, find, goto-record.
+ */
 export function on(event, does) {
   (listeners[event] ??= []).push(does);
 }

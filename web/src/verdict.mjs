@@ -133,8 +133,8 @@ async function check() {
 }
 
 const SAVED = {
-  cert: { words: (path) => ["check", path, FILE, "--cert"], ending: ".crt", what: "certificate", wanted: "yes" },
-  aig: { words: () => ["aig", FILE], ending: ".aag", what: "obligations in AIGER", wanted: "" },
+  cert: { words: (path) => ["check", path, FILE, "--cert"], ending: ".crt", what: "certificate" },
+  aig: { words: () => ["aig", FILE], ending: ".aag", what: "obligations in AIGER" },
 };
 
 /** Makes a certificate, or the obligations in AIGER, and saves it. */

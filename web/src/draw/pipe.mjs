@@ -52,7 +52,7 @@ function pcWay(from) {
 }
 
 /** The lanes of the words that may be forwarded, and what goes to the registers and to Select PC. */
-function lanes(sheet, scene, lit) {
+function lanes(sheet, lit) {
   for (const name in TRACKS) {
     const tap = TAPS[name], track = TRACKS[name];
     sheet.wire([...tap, [tap.at(-1)[0], track], [INTO.A[name], track], [INTO.A[name], UNDER.A]]);
@@ -241,7 +241,7 @@ export function datapath(scene, name = "run") {
   const sheet = new Sheet(name, scene.marks), { texts, stages, on } = scene;
   const rowOf = (stage) => (stages[stage].kind === "bubble" ? 0 : stages[stage].row);
   const lit = (what, stage) => (on.has(what) ? ["on", rowOf(stage)] : ["", 0]);
-  lanes(sheet, scene, lit);
+  lanes(sheet, lit);
   fetchWires(sheet, lit);
   decodeWires(sheet, lit);
   executeWires(sheet, lit);

@@ -1,5 +1,5 @@
-// A refusal explained by the program y86-tell: its JSON as the page shows it. What y86-tell says is proved; how it is
-// drawn isn't.
+// A refusal explained by the program y86-tell: its JSON as the page shows it. What y86-tell finds is proved; its JSON,
+// and how it is drawn, are tested.
 import { startOf } from "../dom.mjs";
 import { comparison } from "./boxes.mjs";
 import { definitionOf } from "./places.mjs";
@@ -98,7 +98,7 @@ function signalsOf(text, { signals, motion }, isStillLoaded) {
 }
 
 /**
- * One refuted obligation of the JSON: `rule`, `path`, `says` (the obligation), `brief`, `where` (comparisons of words),
+ * One refuted obligation of the JSON: `rule`, `says` (the obligation), `brief`, `where` (comparisons of words),
  * `motion` ({ text, isStep }), `scene` (for the drawing), and `signals` ({ name, value, wanted, isWrong, isBlamed,
  * isPicked, isAsked, from, to, start, end, taken (the case, { text, line, start, end }), source, reads }).
  */
@@ -110,7 +110,7 @@ function refusalOf(text, refuted, path) {
   const value = valuesOf(refuted.signals), brief = briefOf(rule, signals, moves, isStillLoaded);
   const scene = path === "pipe" ? sceneOf(situationOf(stages, motion, value), rule, signals)
     : seqSceneOf(stages, path, value, signals);
-  return { rule, path, signals, motion: moves, where, brief, says: obligation, scene };
+  return { rule, signals, motion: moves, where, brief, says: obligation, scene };
 }
 
 /** All refuted obligations of what y86-tell printed, and which to mend first; no refusals where that is no JSON. */
