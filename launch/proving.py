@@ -10,7 +10,7 @@ import time
 
 from programs import laws_on
 
-# A job of the prover takes up to so much memory, in bytes.
+# The memory to expect of a job of the prover, in bytes. A few jobs take more (docs/BENCH.md).
 OF_A_JOB = 2_000_000_000
 # `rt ci` expects up to so much of a crate, on average over those that it proves at once.
 EXPECTED_OF_A_CRATE = 4_500_000_000
