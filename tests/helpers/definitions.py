@@ -11,7 +11,7 @@ from helpers.paths import TOP, needs
 PAGE = f"{TOP}/docs/INDEX.md"
 HEAD = """# Where is it defined?
 
-This page lists each crate, and each definition that has a comment, with the first sentence of that comment.
+This page lists each crate, and each public definition that has a comment, with the first sentence of that comment.
 `python3 tests/helpers/definitions.py` writes this page from the sources, and a test compares it.
 The words that need more than a sentence are in [GLOSSARY.md](GLOSSARY.md).
 
@@ -32,7 +32,7 @@ DEFINITIONS = """
 | name | what it says | file |
 |---|---|---|
 """
-DEFINITION = re.compile(r"(?:abbrev pub|pub record|pub data) (\w+)")
+DEFINITION = re.compile(r" *(?:abbrev pub|unfoldable pub|pub record|pub data) (\w+)")
 
 
 def sentence(text):
@@ -70,9 +70,9 @@ def head_of(crate):
 def comment_above(lines, place):
     """The comment that ends just above a line."""
     words = []
-    while place > 0 and re.match(r"-- (?!-)", lines[place - 1]):
+    while place > 0 and re.match(r" *-- (?!-)", lines[place - 1]):
         place -= 1
-        words.insert(0, lines[place][2:].strip())
+        words.insert(0, lines[place].strip()[2:].strip())
     return " ".join(words)
 
 
