@@ -45,19 +45,20 @@ echo "| \`big 100000 std.hcl\`: $("$here/y86" big 100000 "$here/examples/designs
 
 echo "| \`sample std.hcl 7 1000000\`, the whole call | $(fastest sample "$here/examples/designs/std.hcl" 7 1000000) s |"
 
-# Prints a row of the table: $1 is a request to the program of measures, if the gate has built it. $2 is how many things the request does, and $3 the
-# format of their number in a second. The time is that of the processor in the fastest of three calls, so that other work beside it matters less.
+# Prints a row of the table: $1 is a request to the program of measures, if the gate has built it. $2 is how many things the request does, with `answer` for
+# the number that the program answers, and $3 the format of their number in a second. The time is that of the processor in the fastest of three calls, so
+# that other work beside it matters less.
 measure() {
     [ -x "$here/crates/bench/out/bench" ] || return
     seconds=$(for _ in 1 2 3; do
         TIMEFORMAT=%U
         { time echo "$1" | "$here/crates/bench/out/bench" >"$work/out"; } 2>&1
     done | sort -n | head -1)
-    echo "| \`bench\`, $(cat "$work/out") | $seconds s${2:+, $(awk "BEGIN { printf \"$3\", $2 / $seconds }")} |"
+    echo "| \`bench\`, $(cat "$work/out") | $seconds s${2:+, $(awk -v answer="$(sed 's/ .*//' "$work/out")" "BEGIN { printf \"$3\", $2 / $seconds }")} |"
 }
 
-measure "gates 20000" "20000 * 512 * 5651 / 1000000" "%.0f million gates a second, one of 512 valuations counted as 512"
-measure "single 20000" "20000 * 5651 / 1000000" "%.0f million gates a second"
+measure "gates 20000" "20000 * 512 * answer / 1000000" "%.0f million gates a second, one of 512 valuations counted as 512"
+measure "single 20000" "20000 * answer / 1000000" "%.0f million gates a second"
 measure "ssim 2000000" 2 "%.2f million cycles a second by walking the terms"
 measure "psim 2000000" 2 "%.2f million cycles a second by walking the terms"
 measure "nodes adders 32"
