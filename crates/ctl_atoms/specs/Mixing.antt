@@ -1,4 +1,4 @@
--- Where a definition mixes codes of 4 bits with words of 64 bits. Numbers belong to both.
+-- Where a definition mixes codes (icodes, register numbers, statuses) with words of the datapath. Numbers belong to both.
 use Rattle.std.specs.Prelude.{ℕ, Bool, true, false, ◌||◌, ◌&&◌, List, [], ◌∷◌, map, Option, Some, None, slice_get}
 use Rattle.hcl_types.specs.declared.term.Term.{Term}
 use Rattle.hcl_types.specs.declared.term.TermBranch.{TermBranch}

@@ -5,7 +5,7 @@ use thiserror::Error;
 /// Why a design has no control values.
 #[derive(Clone, Copy, Debug, PartialEq, Eq, Error)]
 pub enum CtlFault {
-    /// The definition of a name, the first in table order, mixes codes of 4 bits with words of 64 bits: in a
+    /// The definition of a name, the first in table order, mixes codes with words of the datapath: in a
     /// comparison, among the members of an `in`, among the values of a case list, or by a value of the other class.
     #[error("Mixed")]
     Mixed(NameId),

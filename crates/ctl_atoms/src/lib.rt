@@ -1,7 +1,7 @@
 //! Control values of HCL signals, the static side: which leaves and constants a signal can pick, and which comparisons
 //! of leaves its definition leaves open.
 //!
-//! An example: `word aluA = [ E_icode == IOPQ : E_valA; 1 : 8 ];` can pick two leaves, `E_valA` and 8. `bool F_stall =
+//! An example: `word aluA = [ E_icode == IOPQ : E_valA; 1 : 8; ];` can pick two leaves, `E_valA` and 8. `bool F_stall =
 //! E_valA == E_valB;` has one open comparison, an atom: the check knows no words, so the atom may be true or false in
 //! any situation.
 #![tactic(auto)]

@@ -1,4 +1,4 @@
-//! Where a definition mixes codes of 4 bits with words of 64 bits.
+//! Where a definition mixes codes (icodes, register numbers, statuses) with words of the datapath.
 ghost use Rattle.std.specs.Prelude.{◌≡◌, ◌<◌, ◌^◌, MatchOption, false, length, map, slice_get, ℕ};
 ghost use Rattle.ctl_atoms.specs.Atoms.{IsFirstMixed};
 ghost use Rattle.ctl_atoms.specs.Mixing.{any, branch_sort, guards, is_code, is_value, mixes, mixes_as, row_sort, sort, values};

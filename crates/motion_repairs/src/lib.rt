@@ -1,7 +1,7 @@
 //! How PIPE's registers move at a valuation, the obligations on motion there, and the changes of stall and bubble
 //! signals that meet them.
 //!
-//! The obligations on motion are 10, 11 and 23 to 27: those that depend on the stall and bubble signals.
+//! Here the obligations on motion are all that depend on the stall and bubble signals: 10, 11 and 23 to 27.
 //! A repair is a change that meets all seven at this valuation: an inverted signal, another choice of `f_pc`, or, if no
 //! single change does, two changes together.
 #![tactic(auto)]

@@ -1,8 +1,8 @@
 //! A diagnosis of one counterexample: an obligation of PIPE, and a valuation at which it is false.
 //!
-//! For an obligation before those on motion it says, for each signal, what the obligation requires and what the file picks. At
-//! least one signal is wrong. For an obligation on motion it says which changes of stall and bubble signals and of
-//! `f_pc` meet all obligations on motion.
+//! For an obligation that doesn't depend on stall and bubble signals it says, for each signal, what the obligation
+//! requires and what the file picks. At least one signal is wrong. For one that does (10, 11 and 23 to 27) it says which
+//! changes of stall and bubble signals and of `f_pc` meet all seven.
 #![tactic(auto)]
 
 mod diagnosis;

@@ -1,4 +1,4 @@
-//! The tables of the datapaths.
+//! The tables of the two sequential datapaths.
 ghost use Rattle.std.specs.Prelude.{◌≡◌, IfOk};
 ghost use Rattle.hcl_types.specs.Tables.{IsSound};
 ghost use Rattle.seq_plus.specs.Datapaths.{rows_of};

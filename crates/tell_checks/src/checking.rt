@@ -1,5 +1,9 @@
 //! `check`: the verdict on an HCL file, explained.
-ghost use Rattle.std.specs.Prelude.{◌≡◌};
+ghost use Rattle.std.specs.Prelude.{◌≡◌, IfOk};
+ghost use Rattle.hcl_types.specs.Tables.{IsBoundDesign};
+ghost use Rattle.seq_plus.specs.Datapaths.{table_rows};
+ghost use Rattle.tell_checks.specs.Accepted.{IsAcceptedText, RefinesOn};
+ghost use Rattle.tell_faults.specs.Told.{HasBytesWith};
 
 use crate::cases::case_places;
 use crate::pipe::explain_pipe;
@@ -49,13 +53,36 @@ fn control_stop(
     Ok(Stop::Fault(out.into_bytes()))
 }
 
-/// Explains the verdict on an HCL file.
+/// Explains the verdict on a design for any datapath.
+fn explain(
+    alloc: Global,
+    asked: CheckQuestion,
+    bound: &BoundDesign,
+    file: &ExplainedFile<'_>,
+) -> Result<Said, CheckFault>
+    requires { IsBoundDesign (table_rows asked.path) bound.now }
+    ensures { IfOk result (λ said. said.status ≡ 0 → RefinesOn asked.path asked.variant bound.now.ordered.design.terms) }
+{
+    match asked.path {
+        Datapath::Pipe => explain_pipe(alloc, asked, bound, file),
+        Datapath::Seq => explain_sequential(alloc, SequentialDatapath::Seq, asked, bound, file),
+        Datapath::SeqPlus => {
+            explain_sequential(alloc, SequentialDatapath::SeqPlus, asked, bound, file)
+        }
+    }
+}
+
+/// Explains the verdict on an HCL file. The status is 0 only if the file has a design for the datapath, and the datapath
+/// under it does what the instructions mean.
+#[tactic(auto, using(crate::proofs::Accepted::accepted))]
 pub fn check<F: Files>(
     alloc: Global,
     hcl: &str,
     asked: CheckQuestion,
     files: &mut F,
-) -> Result<Said, Stop> {
+) -> Result<Said, Stop>
+    ensures { IfOk result (λ said. said.status ≡ 0 → HasBytesWith (F.told files.old hcl.now) (IsAcceptedText asked.path asked.variant)) }
+{
     let source = match files.read(alloc, hcl, HCL_LIMIT) {
         Ok(source) => source,
         Err(error) => return Err(unread(error)),
@@ -66,18 +93,7 @@ pub fn check<F: Files>(
     };
     let cases = case_places(alloc, source.as_slice())?;
     let file = explained_file(&bound, cases.as_slice());
-    let said = match asked.path {
-        Datapath::Pipe => explain_pipe(alloc, asked, &bound, &file),
-        Datapath::Seq => explain_sequential(alloc, SequentialDatapath::Seq, asked, &bound, &file),
-        Datapath::SeqPlus => explain_sequential(
-            alloc,
-            SequentialDatapath::SeqPlus,
-            asked,
-            &bound,
-            &file,
-        ),
-    };
-    match said {
+    match explain(alloc, asked, &bound, &file) {
         Ok(said) => Ok(said),
         Err(CheckFault::Ctl(fault)) => Err(control_stop(alloc, hcl, file.rows, fault)?),
         Err(CheckFault::Memory) => Err(Stop::Memory),

@@ -1,5 +1,6 @@
 //! Answers a call: what it prints, and its exit status.
-ghost use Rattle.std.specs.Prelude.{◌≡◌};
+ghost use Rattle.std.specs.Prelude.{◌≡◌, IfOk};
+ghost use Rattle.tell_cli.specs.Statuses.{IsRight};
 ghost use Rattle.tell_faults.specs.Stops.{status_of};
 
 use crate::showing::show;
@@ -17,7 +18,9 @@ const ODD_SIZE: &str = "the bytes of memory have to be a multiple of 8\n";
 const ODD_LIMIT: &str = "the limit has to be from 1 to 100000000\n";
 
 /// Writes the output, and returns the status.
-fn say<O: Sink>(said: Said, out: &mut O) -> Result<u8, Stop> {
+fn say<O: Sink>(said: Said, out: &mut O) -> Result<u8, Stop>
+    ensures { IfOk result (λ status. status ≡ said.status) }
+{
     match put_all(out, said.text.as_slice()) {
         Ok(()) => Ok(said.status),
         Err(_) => Err(Stop::Write),
@@ -30,7 +33,9 @@ fn answer<F: Files, O: Sink>(
     call: Call<'_>,
     files: &mut F,
     out: &mut O,
-) -> Result<u8, Stop> {
+) -> Result<u8, Stop>
+    ensures { IfOk result (λ status. status ≡ 0 → IsRight (F.told files.old) call.entry) }
+{
     match call {
         Call::Check { hcl, asked } => say(check(alloc, hcl, asked, files)?, out),
         Call::Program { obj, asked } => {
@@ -78,14 +83,16 @@ fn tell_stop<E: Sink>(stop: &Stop, err: &mut E) -> u8
     stop.status()
 }
 
-/// Does what a call asks for, and returns the exit status of the program.
+/// Does what a call asks for, and returns the exit status of the program. Status 0 says what `IsRight` does.
 pub fn respond<F: Files, O: Sink, E: Sink>(
     alloc: Global,
     call: Call<'_>,
     files: &mut F,
     out: &mut O,
     err: &mut E,
-) -> u8 {
+) -> u8
+    ensures { result ≡ 0 → IsRight (F.told files.old) call.entry }
+{
     match answer(alloc, call, files, out) {
         Ok(status) => status,
         Err(stop) => tell_stop(&stop, err),

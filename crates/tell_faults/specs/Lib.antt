@@ -1,3 +1,4 @@
 pub mod Designs
 pub mod Faults
 pub mod Stops
+pub mod Told

@@ -23,7 +23,9 @@ pub enum Stop {
 }
 
 impl From<AllocError> for Stop {
-    fn from(_error: AllocError) -> Stop {
+    fn from(_error: AllocError) -> Stop
+        ensures { result ≡ Stop.Memory }
+    {
         Stop::Memory
     }
 }

@@ -1,4 +1,7 @@
 //! `program`: whether the theorem on accepted HCL files covers a program.
+ghost use Rattle.std.specs.Prelude.{◌≡◌, IfOk};
+ghost use Rattle.tell_faults.specs.Told.{HasBytesWith};
+ghost use Rattle.tell_runs.specs.Covered.{IsCoveredText};
 ghost use Rattle.y86_base.specs.Image.{IsSize};
 
 use fault_report::is_source;
@@ -8,7 +11,9 @@ use tell_faults::{OBJECT_LIMIT, Stop, object_stop, text_stop, unread};
 use tell_words::ProgramQuestion;
 use wb_io::{Files, Sink};
 
-/// Reports whether the theorem covers the program of an object file.
+/// Reports whether the theorem covers the program of an object file. The status is 0 only if the program stops within
+/// the limit, and no instruction fetches a byte that one of the three before it stored.
+#[tactic(auto, using(crate::proofs::Status::covered))]
 pub fn report_program<F: Files, O: Sink>(
     alloc: Global,
     file: &str,
@@ -17,6 +22,7 @@ pub fn report_program<F: Files, O: Sink>(
     out: &mut O,
 ) -> Result<u8, Stop>
     requires { IsSize asked.size }
+    ensures { IfOk result (λ status. status ≡ 0 → HasBytesWith (F.told files.old file.now) (IsCoveredText asked.variant asked.size asked.limit)) }
 {
     let text = match files.read(alloc, file, OBJECT_LIMIT) {
         Ok(text) => text,

@@ -3,7 +3,9 @@ ghost use Rattle.std.specs.Prelude.{◌≡◌, ◌≢◌, ◌↔◌, ◌<◌, �
 ghost use Rattle.run_report.specs.Outcome.{is_same};
 ghost use Rattle.run_report.specs.declared.outcome.Outcome.{Outcome};
 ghost use Rattle.y86_base.specs.Image.{IsSize};
-ghost use Rattle.tell_runs.specs.Running.{IsRun};
+ghost use Rattle.tell_faults.specs.Told.{HasBytesWith};
+ghost use Rattle.tell_runs.specs.Running.{EndsAlike, IsRun};
+ghost use Rattle.wb_io.specs.Files.{HasBytes};
 
 use fault_report::is_source;
 use hcl_types::{BoundDesign, Datapath, Row, Table};
@@ -92,7 +94,52 @@ fn said_of(alloc: Global, asked: &RunQuestion, run: &Run) -> Result<Said, AllocE
     })
 }
 
-/// Runs a program under an HCL file for PIPE and by its instructions, and reports where they differ.
+/// Runs the program of an object text under an HCL text for PIPE and by its instructions. The names of their files are
+/// for the reports of faults.
+fn report_run(
+    alloc: Global,
+    hcl: &str,
+    obj: &str,
+    source: &[u8],
+    object: &[u8],
+    asked: &RunQuestion,
+) -> Result<Said, Stop>
+    requires size { IsSize asked.now.size }
+    requires limit { asked.now.limit < 2 ^ 63 }
+    ensures { IfOk result (λ said. said.status ≡ 0 → EndsAlike asked.now.variant asked.now.size asked.now.limit source.now object.now) }
+{
+    match run_texts(alloc, source, object, asked) {
+        Ok(run) => Ok(said_of(alloc, asked, &run)?),
+        Err(NoRun::Design(fault)) => { Err(fault_stop(alloc, hcl, source, Datapath::Pipe, &fault)) }
+        Err(NoRun::Object(fault)) => Err(object_stop(alloc, obj, object, asked.size, &fault)),
+        Err(NoRun::Source) => Err(text_stop(alloc, obj, object, asked.size)),
+    }
+}
+
+/// The bytes of an HCL file and of an object file.
+#[tactic(auto, using(crate::proofs::Status::told_before))]
+fn bytes_of<F: Files>(
+    alloc: Global,
+    hcl: &str,
+    obj: &str,
+    files: &mut F,
+) -> Result<(Vec<u8>, Vec<u8>), Stop>
+    ensures hcl { IfOk result (λ read. HasBytes (F.told files.old hcl.now) read.0.items) }
+    ensures obj { IfOk result (λ read. HasBytes (F.told files.old obj.now) read.1.items) }
+{
+    let source = match files.read(alloc, hcl, HCL_LIMIT) {
+        Ok(source) => source,
+        Err(error) => return Err(unread(error)),
+    };
+    match files.read(alloc, obj, OBJECT_LIMIT) {
+        Ok(object) => Ok((source, object)),
+        Err(error) => Err(unread(error)),
+    }
+}
+
+/// Runs a program under an HCL file for PIPE and by its instructions, and reports where they differ. The status is 0 only
+/// if both runs ended alike.
+#[tactic(auto, using(crate::proofs::Status::ended_alike))]
 pub fn tell_run<F: Files>(
     alloc: Global,
     hcl: &str,
@@ -102,31 +149,9 @@ pub fn tell_run<F: Files>(
 ) -> Result<Said, Stop>
     requires size { IsSize asked.now.size }
     requires limit { asked.now.limit < 2 ^ 63 }
+    ensures { IfOk result (λ said. said.status ≡ 0 → HasBytesWith (F.told files.old hcl.now) (λ source.
+        HasBytesWith (F.told files.old obj.now) (EndsAlike asked.now.variant asked.now.size asked.now.limit source))) }
 {
-    let source = match files.read(alloc, hcl, HCL_LIMIT) {
-        Ok(source) => source,
-        Err(error) => return Err(unread(error)),
-    };
-    let object = match files.read(alloc, obj, OBJECT_LIMIT) {
-        Ok(object) => object,
-        Err(error) => return Err(unread(error)),
-    };
-    match run_texts(alloc, source.as_slice(), object.as_slice(), asked) {
-        Ok(run) => Ok(said_of(alloc, asked, &run)?),
-        Err(NoRun::Design(fault)) => Err(fault_stop(
-            alloc,
-            hcl,
-            source.as_slice(),
-            Datapath::Pipe,
-            &fault,
-        )),
-        Err(NoRun::Object(fault)) => Err(object_stop(
-            alloc,
-            obj,
-            object.as_slice(),
-            asked.size,
-            &fault,
-        )),
-        Err(NoRun::Source) => Err(text_stop(alloc, obj, object.as_slice(), asked.size)),
-    }
+    let (source, object) = bytes_of(alloc, hcl, obj, files)?;
+    report_run(alloc, hcl, obj, source.as_slice(), object.as_slice(), asked)
 }

@@ -39,46 +39,68 @@ pub enum Call<'a> {
 /// The words for the datapaths.
 static PATHS: [&str; 3] = ["seq", "seqplus", "pipe"];
 
+/// An argument that names a file.
+fn file<'a>(alloc: Global, name: &'a str, help: &'a str) -> Arg<'a> {
+    Arg::new(alloc, name)
+        .required(true)
+        .action(ArgAction::Set)
+        .help(help)
+}
+
+/// An option without a value.
+fn switch<'a>(alloc: Global, name: &'a str, help: &'a str) -> Arg<'a> {
+    Arg::new(alloc, name)
+        .long(name)
+        .action(ArgAction::SetTrue)
+        .help(help)
+}
+
+/// An option whose value is a number.
+fn number<'a>(
+    alloc: Global,
+    name: &'a str,
+    least: i64,
+    most: i64,
+    usual: &'a str,
+    help: &'a str,
+) -> Arg<'a> {
+    Arg::new(alloc, name)
+        .long(name)
+        .action(ArgAction::Set)
+        .value_parser(clap::value_parser!(u64).range(least..=most))
+        .default_value(usual)
+        .help(help)
+}
+
 /// The option `--full`.
 fn full<'a>(alloc: Global) -> Arg<'a> {
-    Arg::new(alloc, "full")
-        .long("full")
-        .action(ArgAction::SetTrue)
-        .help("With the instruction iaddq")
+    switch(alloc, "full", "With the instruction iaddq")
 }
 
 /// The option `--json`.
 fn json<'a>(alloc: Global) -> Arg<'a> {
-    Arg::new(alloc, "json")
-        .long("json")
-        .action(ArgAction::SetTrue)
-        .help("The same facts as JSON")
+    switch(alloc, "json", "The same facts as JSON")
 }
 
 /// The argument that is an HCL file.
 fn hcl<'a>(alloc: Global) -> Arg<'a> {
-    Arg::new(alloc, "hcl")
-        .required(true)
-        .action(ArgAction::Set)
-        .help("The HCL file")
+    file(alloc, "hcl", "The HCL file")
 }
 
 /// The argument that is an object file.
 fn obj<'a>(alloc: Global) -> Arg<'a> {
-    Arg::new(alloc, "obj")
-        .required(true)
-        .action(ArgAction::Set)
-        .help("The object file")
+    file(alloc, "obj", "The object file")
+}
+
+/// The option `--mem`.
+fn mem<'a>(alloc: Global) -> Arg<'a> {
+    let help = "The bytes of memory, a multiple of 8";
+    number(alloc, "mem", 64, 1_048_576, "8192", help)
 }
 
 /// The option `--limit`.
 fn limit<'a>(alloc: Global, help: &'a str) -> Arg<'a> {
-    Arg::new(alloc, "limit")
-        .long("limit")
-        .action(ArgAction::Set)
-        .value_parser(clap::value_parser!(u64).range(1..=100_000_000))
-        .default_value("10000")
-        .help(help)
+    number(alloc, "limit", 1, 100_000_000, "10000", help)
 }
 
 /// The command `check`.
@@ -96,16 +118,6 @@ fn check_command<'a>(alloc: Global) -> Result<Command<'a>, AllocError> {
         .arg(json(alloc))
 }
 
-/// The option `--mem`.
-fn mem<'a>(alloc: Global) -> Arg<'a> {
-    Arg::new(alloc, "mem")
-        .long("mem")
-        .action(ArgAction::Set)
-        .value_parser(clap::value_parser!(u64).range(64..=1_048_576))
-        .default_value("8192")
-        .help("The bytes of memory, a multiple of 8")
-}
-
 /// The command `program`.
 fn program_command<'a>(alloc: Global) -> Result<Command<'a>, AllocError> {
     Command::new(alloc, "program")
@@ -120,10 +132,11 @@ fn program_command<'a>(alloc: Global) -> Result<Command<'a>, AllocError> {
 
 /// The command `run`.
 fn run_command<'a>(alloc: Global) -> Result<Command<'a>, AllocError> {
-    let unchecked = Arg::new(alloc, "unchecked")
-        .long("unchecked")
-        .action(ArgAction::SetTrue)
-        .help("Don't ask the check whether the theorem covers the run");
+    let unchecked = switch(
+        alloc,
+        "unchecked",
+        "Don't ask the check whether the theorem covers the run",
+    );
     Command::new(alloc, "run")
         .about(
             "Run a program on PIPE and by its instructions, and say where they differ; and whether the theorem says beforehand that they don't",
@@ -139,17 +152,18 @@ fn run_command<'a>(alloc: Global) -> Result<Command<'a>, AllocError> {
 
 /// The command `fault`.
 fn fault_command<'a>(alloc: Global) -> Result<Command<'a>, AllocError> {
-    let file = Arg::new(alloc, "file")
-        .required(true)
-        .action(ArgAction::Set)
-        .help("The file: HCL (.hcl), object text (.yo), or assembly");
+    let any = file(
+        alloc,
+        "file",
+        "The file: HCL (.hcl), object text (.yo), or assembly",
+    );
     let path = Arg::new(alloc, "path")
         .action(ArgAction::Set)
         .value_parser(PATHS.as_slice())
         .help("The processor that an HCL file is for");
     Command::new(alloc, "fault")
         .about("Report every fault of a file")
-        .arg(file)?
+        .arg(any)?
         .arg(path)?
         .arg(full(alloc))?
         .arg(mem(alloc))?
@@ -277,7 +291,7 @@ fn show_call<'a>(own: &ArgMatches<'a>) -> Call<'a> {
 }
 
 /// Reads the arguments, the program's own name first. `None` if they name no command.
-pub fn call_of<'a>(alloc: Global, words: &'a [String]) -> Result<Option<Call<'a>>, Error> {
+fn read<'a>(alloc: Global, words: &'a [String]) -> Result<Option<Call<'a>>, Error> {
     let matches = command(alloc)?.try_get_matches_from(words)?;
     let Some((name, own)) = matches.subcommand() else {
         return Ok(None);
@@ -292,11 +306,22 @@ pub fn call_of<'a>(alloc: Global, words: &'a [String]) -> Result<Option<Call<'a>
     })
 }
 
-/// Prints the error or help message of the command line, and returns the status: 2 unless it was a request for help.
-pub fn misuse<R: Print + Eprint>(rt: &R, error: &Error) -> u8 {
-    let _ = error.print(rt);
-    match error.exit_code() {
-        0 => 0,
-        _ => 2,
+/// What the arguments ask for, the program's own name first. If they form no call, prints the error or help message,
+/// and returns the status in `Err`: 2 unless they asked for help.
+pub fn call_of<'a, R: Print + Eprint>(
+    rt: &R,
+    alloc: Global,
+    words: &'a [String],
+) -> Result<Call<'a>, u8> {
+    match read(alloc, words) {
+        Ok(Some(call)) => Ok(call),
+        Ok(None) => Err(2),
+        Err(error) => {
+            let _ = error.print(rt);
+            match error.exit_code() {
+                0 => Err(0),
+                _ => Err(2),
+            }
+        }
     }
 }

@@ -4,7 +4,7 @@
 mod arguments;
 mod questions;
 
-pub use arguments::{Call, call_of, misuse};
+pub use arguments::{Call, call_of};
 pub use questions::{
     CheckQuestion, FaultQuestion, ProgramQuestion, RunQuestion, is_limit, is_size,
 };

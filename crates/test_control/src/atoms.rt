@@ -97,7 +97,7 @@ static ATOMS: [(&[u8], &[(AtomKind, Leaf, Leaf)]); 8] = [
     ),
 ];
 
-/// The definitions of bt.hcl have three atoms, those of std.hcl none.
+/// The definitions of `backward_taken.hcl` have three atoms, those of `std.hcl` none.
 static BT_ATOMS: [(AtomKind, Leaf, Leaf); 3] = [
     (LESS, M_VAL_E, M_VAL_A),
     (LESS, F_VAL_C, F_VAL_P),

@@ -5,19 +5,19 @@
 pub enum Example {
     /// `seq.hcl`: SEQ.
     Seq,
-    /// `sp.hcl`: SEQ+, the sequential datapath that computes the PC at the beginning of a cycle.
+    /// `seq_plus.hcl`: SEQ+, the sequential datapath that computes the PC at the beginning of a cycle.
     Sp,
     /// `std.hcl`: PIPE.
     Std,
-    /// `nb.hcl`: PIPE without bypassing.
+    /// `no_bypassing.hcl`: PIPE without bypassing.
     Nb,
-    /// `lf.hcl`: PIPE with load forwarding.
+    /// `load_forwarding.hcl`: PIPE with load forwarding.
     Lf,
-    /// `nt.hcl`: PIPE with conditional jumps predicted not taken.
+    /// `not_taken.hcl`: PIPE with conditional jumps predicted not taken.
     Nt,
-    /// `bt.hcl`: PIPE with backward jumps predicted taken, forward ones not.
+    /// `backward_taken.hcl`: PIPE with backward jumps predicted taken, forward ones not.
     Bt,
-    /// `fu.hcl`: PIPE with `iaddq`.
+    /// `with_iaddq.hcl`: PIPE with `iaddq`.
     Fu,
 }
 

@@ -1,4 +1,4 @@
-//! The designs of `examples/`, byte for byte and with changes, for the tests of other crates.
+//! The designs of `examples/`, without blank lines and later comments, and with changes, for the tests of other crates.
 #![tactic(auto)]
 
 mod changes;

@@ -1,4 +1,4 @@
-//! The top call: does the command that the words form, and returns the status.
+//! Does the command that the arguments form, and returns the status.
 ghost use Rattle.std.specs.Prelude.{◌≡◌, None, map, string_bytes};
 ghost use Rattle.cli_plans.specs.PlanFollowing.{FollowsPlanOver, OnCall, OnFilesAndSink};
 ghost use Rattle.y86_cli.specs.Answers.{plan_of};

@@ -4,7 +4,7 @@
 use std::process::ExitCode;
 use std::{env, io};
 use tell_cli::respond;
-use tell_words::{call_of, misuse};
+use tell_words::call_of;
 use wb_io::{HostFiles, HostSink};
 
 fn main(rt: HostRuntime) -> ExitCode {
@@ -16,15 +16,14 @@ fn main(rt: HostRuntime) -> ExitCode {
         },
         Err(_) => return ExitCode::from(2),
     };
-    let status = match call_of(alloc, words.as_slice()) {
-        Ok(Some(call)) => {
+    let status = match call_of(&rt, alloc, words.as_slice()) {
+        Ok(call) => {
             let mut files = HostFiles::new(&rt);
             let mut out = HostSink::new(io::writer(&rt));
             let mut err = HostSink::new(rt.stderr());
             respond(alloc, call, &mut files, &mut out, &mut err)
         }
-        Ok(None) => 2,
-        Err(error) => misuse(&rt, &error),
+        Err(status) => status,
     };
     ExitCode::from(status)
 }

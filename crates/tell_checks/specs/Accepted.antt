@@ -1,0 +1,23 @@
+-- What status 0 of `check` says of the file.
+use Rattle.std.specs.Prelude.{ℕ, List}
+use Rattle.control_check.specs.PipeVerdicts.{RefinesPipe}
+use Rattle.hcl_types.specs.declared.table.Datapath.{Datapath}
+use Rattle.hcl_types.specs.declared.table.Datapath.TheVariants as all
+use Rattle.hcl_types.specs.declared.table.SequentialDatapath.TheVariants.{Seq, SeqPlus}
+use Rattle.hcl_types.specs.declared.term.Term.{Term}
+use Rattle.seq_check.specs.Verdicts.{Refines}
+use Rattle.seq_plus.specs.Datapaths.{table_rows}
+use Rattle.tell_faults.specs.Designs.{HasDesignOver}
+use Rattle.y86_base.specs.declared.parts.Variant.{Variant}
+
+-- the datapath under a design does what the instructions mean, for every program that the theorem covers
+abbrev pub RefinesOn : Datapath → Variant → List Term → Type 0
+RefinesOn all.Seq v terms = Refines Seq v terms
+RefinesOn all.SeqPlus v terms = Refines SeqPlus v terms
+RefinesOn all.Pipe v terms = RefinesPipe v terms
+
+-- the text has a design for the datapath, and the datapath under it does what the instructions mean
+pub record IsAcceptedText (path : Datapath) (v : Variant) (text : List ℕ) : Type 0 where
+  pub terms : List Term
+  pub design : HasDesignOver (table_rows path) text terms
+  pub refines : RefinesOn path v terms

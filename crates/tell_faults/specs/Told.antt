@@ -1,0 +1,7 @@
+-- What a source of files tells of a file.
+use Rattle.std.specs.Prelude.{ℕ, List, Option}
+use Rattle.wb_io.specs.Files.{HasBytes}
+
+-- the file has bytes with a property, as far as the source tells its bytes
+abbrev pub HasBytesWith : Option (Option (List ℕ)) → (List ℕ → Type 0) → Type 0
+HasBytesWith told P = (bytes : List ℕ) × HasBytes told bytes × P bytes
