@@ -37,6 +37,8 @@ SOLUTIONS = (
     )),
     "examples/copy/ncopy_",
     "examples/tutorial/",
+    # (`a_setting` and `picked_words` are `no_bypassing` and `backward_taken` but for two definitions each)
+    "examples/slow/",
     "examples/class/",
     "docs/TUTORIAL.md",
     "docs/TEACHING.md",

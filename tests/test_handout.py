@@ -18,7 +18,7 @@ from helpers.pages import Session, transcripts
 from helpers.paths import TOP
 from helpers.repository import Repository
 from programs import launcher, programs_in
-from y86lab import cli
+from y86lab import cli, hcl
 
 # All that the commands of the pages may call beside the programs.
 TOOLS = "awk bash cat cp cut diff env find grep head ls mkdir paste printf rm sed seq sh sort tail tr uniq wc xargs".split()
@@ -211,6 +211,27 @@ def test_without_solutions(class_folder):
     left = set(files_in(f"{class_folder}/folder")) - set(files_in(f"{class_folder}/without"))
     same([name for name in files_in(f"{class_folder}/without") if name.startswith(handout.SOLUTIONS)], [])
     assert {"examples/designs/load_forwarding.hcl", "examples/copy/ncopy_tree.ys", "docs/TUTORIAL.md"} <= left
+
+
+def definitions(path):
+    """The definitions of an HCL file, without comments and blanks."""
+    design = hcl.Design(read(path))
+    return {(it.name, tuple(token.text for token in hcl.tokens_of(design.text[it.body.start : it.body.end]))) for it in design.definitions}
+
+
+def test_no_file_is_almost_a_solution(class_folder):
+    """Of each HCL file that stays, the design that is most like it stays, too."""
+    whole, without = f"{class_folder}/folder", f"{class_folder}/without"
+    designs = {name: definitions(f"{whole}/{name}") for name in files_in(whole) if name.startswith("examples/designs/")}
+    stay = [name for name in designs if os.path.exists(f"{without}/{name}")]
+    almost = []
+    for name in files_in(without):
+        if name.endswith(".hcl"):
+            own = definitions(f"{without}/{name}")
+            shared = {other: len(own & theirs) for other, theirs in designs.items()}
+            if max(shared.values()) > max(shared[other] for other in stay):
+                almost.append(f"{name}: {max(shared, key=lambda other: shared[other])}")
+    same(almost, [])
 
 
 def test_commands_without_solutions(class_folder):
