@@ -383,6 +383,14 @@ def test_try(lab, programs):
     same(lab("try", "p.ys", "wrong.hcl", "--inputs", "1", tell=tell)[:2], (0, "p.ys comes out right on wrong.hcl.\n"))
 
 
+@pytest.mark.parametrize("line", ["a: .quad 0", "a:.quad $0", "a : .quad 0x0 // x", "a:\n.quad 0 /* x */", "a:\n.quad$0 # x"])
+def test_try_changes_each_word(line, lab, programs):
+    """A label, a `$` or a comment may be on the line of the word."""
+    program = f"irmovq a, %rdi\nmrmovq (%rdi), %rax\nhalt\n.align 8\n{line}\n"
+    files = {"p.ys": program, "std.hcl": example("std")}
+    same(lab("try", "p.ys", "std.hcl", files=files, tell=programs("y86_tell")), (0, "p.ys comes out right on std.hcl with each of 20 inputs.\n", ""))
+
+
 def test_try_with_inputs_without_an_end(lab, programs):
     """A word counts the turns of a loop. A pipeline isn't wrong because the loop doesn't end."""
     program = "irmovq n, %rdi\nmrmovq (%rdi), %rcx\nirmovq $1, %r8\nloop:\nsubq %r8, %rcx\njne loop\nhalt\n.align 8\nn:\n.quad 5\n"

@@ -14,7 +14,7 @@ from ..calls import Answer, Limits, Programs, read_text
 from ..errors import DONE, OUT_OF_TIME, REFUSED, LabError
 
 COMMANDS = {"seq": "ssim", "seqplus": "ssimp"}
-WORD = re.compile(r"^(\s*\.quad\s+)(0x[0-9a-fA-F]+|-?\d+)(\s*(?:#.*)?)$")
+WORD = re.compile(r"^((?:\s*[A-Za-z_]\w*\s*:)?\s*\.quad\s*\$?\s*)(0x[0-9a-fA-F]+|-?\d+)(\s*(?:(?:#|//|/\*).*)?)$")
 LONG_RUN = 120
 
 
@@ -23,7 +23,7 @@ def add_arguments(parser: argparse.ArgumentParser) -> None:
     parser.add_argument("file", metavar="HCL", help="the processor")
     parser.add_argument(
         "--inputs", type=number_to(MOST), default=20, metavar="N",
-        help="of a source: with its own words, and N - 1 times with others in its .quad lines (default 20)",
+        help="how many times to run a source: once as it is, then with other words in its .quad lines (default 20)",
     )
     add_run_options(parser)
 
