@@ -186,6 +186,12 @@ def test_man_pages():
         assert re.search(r"y86 psim HCL OBJ \[--full\] \[--mem N\] \[--limit N\] \[--trace\] \[--checked\]", text.stdout), text.stdout
 
 
+def test_an_option_that_is_needed():
+    """It has no brackets in the man page; an option of few values names them."""
+    grade = next(form for form in cli.all_programs()[-1].forms if form.name == "grade")
+    same(manual.usage(grade).replace("\\", "").partition(" [--output")[0], "grade FOLDER [--help] --rubric FILE [--format csv|json|junit|gradescope]")
+
+
 def completed(folder, *words):
     """What bash completes, in a folder."""
     script = f'''source {folder}/completion.bash

@@ -24,7 +24,7 @@ function draw({ path, lines, diagram, object, cycle, names }) {
   if (cycle > count) throw new Error(`the run has ${count} cycles`);
   if (cycle)
     return path === "pipe" ? datapath(sceneOfCycle(run, cycle), "drawn") : seqPath(seqScene(run, cycle), "drawn");
-  if (path !== "pipe") throw new Error("there is no diagram of SEQ and SEQ+: give a cycle");
+  if (path !== "pipe") throw new Error("the diagram is for PIPE alone: --cycle N draws a cycle");
   const nameOf = (row) => (row.isBubble ? "        bubble" : `${address(row.at)}  ${listed(row)}`);
   return diagramSVG(run, 1, Math.min(MOST, count), nameOf, `${names.ys} under ${names.hcl}`);
 }

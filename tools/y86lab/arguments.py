@@ -55,9 +55,12 @@ def add_run_options(parser: argparse.ArgumentParser) -> None:
     """The options of a run, as `psim` has them."""
     add_full(parser)
     parser.add_argument(
-        "--mem", type=memory_size, metavar="N", help="the size of the memory: a multiple of 8 from 64 to 1048576"
+        "--mem", type=memory_size, metavar="N",
+        help="the size of the memory: a multiple of 8 from 64 to 1048576 (default 8192)",
     )
-    parser.add_argument("--limit", type=number_to(100000000), metavar="N", help="the most cycles: 1 to 100000000")
+    parser.add_argument(
+        "--limit", type=number_to(100000000), metavar="N", help="the most cycles: 1 to 100000000 (default 10000)"
+    )
 
 
 def run_options(arguments: argparse.Namespace) -> list[str]:

@@ -13,6 +13,7 @@ class Option:
     name: str
     value: str
     summary: str
+    is_needed: bool = False
 
 
 @dataclass(frozen=True)
@@ -158,8 +159,8 @@ def form_of(name: str, parser: argparse.ArgumentParser) -> Form:
         if isinstance(action, argparse._SubParsersAction):  # pylint: disable=protected-access
             words.append("|".join(action.choices or ()))
         elif action.option_strings:
-            value = str(action.metavar or "") if action.nargs != 0 else ""
-            options.append(Option(action.option_strings[-1], value, action.help or ""))
+            value = str(action.metavar or "|".join(action.choices or ())) if action.nargs != 0 else ""
+            options.append(Option(action.option_strings[-1], value, action.help or "", action.required))
         else:
             words.append(word_of(action))
     return Form(name, " ".join(words), tuple(options), parser.description or "")
@@ -208,7 +209,8 @@ def man_page(program: Program, version: str) -> str:
 
 
 def usage(form: Form) -> str:
-    options = [f"[{option.name}{' ' + option.value if option.value else ''}]" for option in form.options]
+    written = {option: f"{option.name} {option.value}".rstrip() for option in form.options}
+    options = [words if option.is_needed else f"[{words}]" for option, words in written.items()]
     return roff(" ".join(word for word in (form.name, form.words, *options) if word))
 
 

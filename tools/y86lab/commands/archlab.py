@@ -31,7 +31,7 @@ def add_arguments(parser: argparse.ArgumentParser) -> None:
     parser.add_argument(
         "source", metavar="NCOPY.ys", help=f"the function ncopy, or a folder of hand-ins with {SOURCE} and {PROCESSOR}"
     )
-    parser.add_argument("file", metavar="HCL", nargs="?", help="the pipeline; of a folder, for all hand-ins")
+    parser.add_argument("file", metavar="HCL", nargs="?", help="the pipeline; after a folder: the one for all hand-ins")
     add_full(parser)
     parser.add_argument(
         "--curves", metavar="FOLDER", help="write the cycles of lengths 1 to 64 into this folder, as CSV and as SVG"

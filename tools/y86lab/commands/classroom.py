@@ -38,7 +38,7 @@ class Row:
 
 def add_arguments(parser: argparse.ArgumentParser) -> None:
     number = number_to(MOST)
-    parser.add_argument("places", metavar="FOLDER", nargs="+", help="a folder of files, or a file")
+    parser.add_argument("places", metavar="FOLDER", nargs="+", help="a folder of HCL files, or a file")
     parser.add_argument("--jobs", type=number, default=1, metavar="N", help="how many files at once (default 1)")
     parser.add_argument(
         "--seconds", type=number, default=60, metavar="N", help="the processor time of a call (default 60)"
@@ -172,4 +172,4 @@ def cycles_of_examples(programs: Programs, path: str, full: bool, limits: Limits
     return str(total)
 
 
-COMMAND = Command("class", "checks every file of a folder, into a CSV", add_arguments, run)
+COMMAND = Command("class", "checks every HCL file of a folder, and prints a CSV table", add_arguments, run)

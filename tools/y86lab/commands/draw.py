@@ -17,7 +17,7 @@ from .page import run_texts
 
 
 def add_arguments(parser: argparse.ArgumentParser) -> None:
-    parser.add_argument("file", metavar="HCL", help="a file of HCL")
+    parser.add_argument("file", metavar="HCL", help="the processor")
     parser.add_argument("object", metavar="OBJ", help="the object file to run")
     parser.add_argument("--cycle", metavar="N", type=int, help="the datapath in this cycle, in place of the diagram")
     parser.add_argument("--dark", action="store_true", help="in light colours on a dark ground")

@@ -26,7 +26,7 @@ Data = dict[str, Any]
 
 
 def add_arguments(parser: argparse.ArgumentParser) -> None:
-    parser.add_argument("file", metavar="HCL", help="a file of HCL; without OBJ the file of a no")
+    parser.add_argument("file", metavar="HCL", help="the processor; without OBJ one that the check refuses")
     parser.add_argument("object", metavar="OBJ", nargs="?", help="the object file to run")
     parser.add_argument("-o", "--output", metavar="FILE", help="the page to write")
     add_run_options(parser)
