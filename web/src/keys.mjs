@@ -14,8 +14,8 @@ const TEXT_ROWS = [
   ["w", "the next tab: this run, by instructions, why no"],
   ["Ctrl Enter", "from a text to the result"], ["Ctrl space", "in a text: the names that fit"],
 ];
-const TEXT = `<p>On the left are a processor’s control logic in HCL and a Y86-64 program. On the right, always for `
-  + `these very texts: is the processor right for <em>every</em> program,
+const TEXT = `<p>The two texts are a processor’s control logic in HCL and a Y86-64 program. The answers are always `
+  + `for these very texts: is the processor right for <em>every</em> program,
 does <em>this</em> program come out right, and the run cycle by cycle.</p>`;
 const MORE = `<p>The keys work outside of the texts; <kbd>Tab</kbd> leaves a text. Files can be dropped. What you `
   + `write stays in this browser; a copied link has both texts after its <code>#</code>.</p>`;

@@ -32,7 +32,7 @@ function wireSaves() {
 function showYes(it, path, line) {
   state.verdict = { at: it.at, kind: "yes" };
   const title = path === "pipe" ? "Right for every program" : `${PATHS[path]}: right for every program`;
-  const more = path === "pipe" ? ' <small>that doesn’t overwrite its next three instructions</small>' : "";
+  const more = path === "pipe" ? ' <small>in which no instruction overwrites one of the next three</small>' : "";
   const said = path === "pipe" ? settings(line).join(" ")
     : "In every cycle this processor does the program’s next instruction.";
   card("verdict", "yes", `${head("yes", title, more)}<p>${escaped(said)}${notAsked(it.hcl)}${saves(path, true)}</p>`);
