@@ -370,6 +370,9 @@ ARCHLAB = [
     (("archlab", "ncopy.ys", "nofile.hcl"), 3, b"", b"read fault nofile.hcl\n"),
     (("archlab", "ncopy.ys", "seq.hcl"), 5, b"", b"seq.hcl: Unknown icode\n"),
 ]
+# (its first statement is on line 3; as object text it would be an empty program)
+SOURCE = b"ncopy.ys:3: This is a source and no object file: assemble it by `yas` first. As an object file it puts no byte anywhere.\n"
+SOURCES = [((name, "std.hcl", "ncopy.ys"), 5, b"", SOURCE) for name in ("cycles", "page")]
 FILES = {f"{name}.hcl": design(name) for name in ("std", "seq_plus", "seq", "stall_and_bubble")}
 # (of iaddq it forgets the flags)
 FILES["flags.hcl"] = changed(design("with_iaddq"), set_cc="E_icode == IOPQ && !m_stat in { SADR, SINS, SHLT } && !W_stat in { SADR, SINS, SHLT }")
@@ -379,7 +382,7 @@ FILES |= {"add.yo": read("programs/add.yo"), "ncopy.ys": NCOPY, "ncopy_iaddq.ys"
 FILES |= {"endless.ys": NCOPY.replace(b"jg next", b"jmp next"), "other.ys": NCOPY.replace(b"ncopy:", b"copy:"), "twice.ys": NCOPY + b"lab_to:\n"}
 
 
-@cases((" ".join(words), words, status, out, err) for words, status, out, err in (*WITNESS, *CYCLES, *ARCHLAB, *CLASS))
+@cases((" ".join(words), words, status, out, err) for words, status, out, err in (*WITNESS, *CYCLES, *ARCHLAB, *SOURCES, *CLASS))
 def test_command(row, lab):
     _, words, *wanted = row
     same(lab(*words, files=FILES), tuple(wanted))

@@ -4,14 +4,16 @@ from __future__ import annotations
 import json
 import re
 from dataclasses import dataclass
-from typing import Any, Optional
+from typing import Any, Optional, Sequence
 
 from .calls import LONG, Answer, Limits, Programs, full_flag
-from .errors import REFUSED, LabError
+from .errors import FAULT, REFUSED, LabError
 from .hcl import without_comments
 
 NAME = "y86-tell"
 DATAPATHS = {"pipe": "PIPE", "seq": "SEQ", "seqplus": "SEQ+"}
+# What it says of a source in place of an object file.
+SOURCE = "This is a source and no object file"
 Json = dict[str, Any]
 
 
@@ -38,6 +40,13 @@ def check_in_words(programs: Programs, word: str, path: str, full: bool) -> Answ
 def faults_in_words(programs: Programs, path: str, full: bool) -> str:
     """A line for each fault of a file; empty if there is none."""
     return programs.run("fault", *full_flag(full), "--", path, program=NAME, limits=Limits(LONG)).out.strip()
+
+
+def stop_on_source(programs: Programs, path: str, options: Sequence[str]) -> None:
+    """Raises an error if a file is a source in place of an object file: it would be taken for an empty program."""
+    answer = programs.run("program", *options, "--", path, program=NAME, limits=Limits(LONG))
+    if answer.status == FAULT and SOURCE in answer.err:
+        raise LabError(answer.err.strip(), FAULT)
 
 
 def datapath_if_read(programs: Programs, path: str, limits: Limits = Limits(LONG)) -> Optional[str]:

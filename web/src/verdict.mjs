@@ -147,7 +147,7 @@ async function save(kind) {
     if (said.status !== 0) toast(`No ${what}: ${said.err.trim() || `status ${said.status}`}`);
     else {
       download(`${name}${ending}`, said.out);
-      toast(`The ${what}: ${(said.out.length / 1e6).toFixed(1)} MB`);
+      toast(`The ${what}: ${Math.ceil(said.out.length / 1e3).toLocaleString("en")} kB`);
     }
   } catch (stopped) {
     if (!(stopped instanceof Stopped)) throw stopped;

@@ -23,6 +23,7 @@ def run(arguments: argparse.Namespace, programs: Programs) -> int:
     path, object_path = arguments.file, arguments.object
     read_text(path)
     datapath = tell.datapath(programs, path)
+    tell.stop_on_source(programs, object_path, run_options(arguments))
     if datapath != "pipe":
         return print_sequential(programs, datapath, path, object_path, run_options(arguments))
     pipeline_run = PipelineRun(programs, path, object_path, run_options(arguments))

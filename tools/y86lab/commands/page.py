@@ -72,6 +72,7 @@ def run_texts(programs: Programs, path: str, object_path: str, options: list[str
         named = programs.named(STAGES)
         told = f"a run by cycles needs the program {STAGES}, and {named} isn't there"
         raise LabError(f"{told}; Y86_STAGES in the environment may name it")
+    tell.stop_on_source(programs, object_path, options)
     words = [path, object_path, *options, "--to", str(MOST_CYCLES)]
     if datapath != "pipe":
         words.append(f"--{datapath}")
