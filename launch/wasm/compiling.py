@@ -1,5 +1,6 @@
 """Compiles and links a program's module for WebAssembly, by the toolchain's own clang and ld.lld."""
 import os
+import shutil
 import subprocess
 import tempfile
 
@@ -53,6 +54,4 @@ def compiled(tools: str, module: str, to: str) -> None:
         # (lld goes by the name that it is called by)
         os.symlink(f"{tools}/bin/ld.lld", f"{room}/wasm-ld")
         run([f"{room}/wasm-ld", *LINKED, "-o", f"{room}/made.wasm", f"{room}/now.o", f"{room}/shim.o"])
-        os.replace(f"{room}/made.wasm", f"{room}/whole.wasm")
-        with open(f"{room}/whole.wasm", "rb") as made, open(to, "wb") as file:
-            file.write(made.read())
+        shutil.copyfile(f"{room}/made.wasm", to)
