@@ -186,6 +186,14 @@ def test_man_pages():
         assert re.search(r"y86 psim HCL OBJ \[--full\] \[--mem N\] \[--limit N\] \[--trace\] \[--checked\]", text.stdout), text.stdout
 
 
+def test_a_command_of_a_command():
+    """Each has its own line in the man page, with its arguments."""
+    aig = next(form for form in cli.all_programs()[-1].forms if form.name == "aig")
+    same([form.name for form in aig.parts], ["aig cnf", "aig blif", "aig confirm"])
+    same(manual.usage(aig.parts[0]).replace("\\", ""), "aig cnf AAG OUTPUT [--help]")
+    assert "aig confirm [HCL ..] [--help] [--broken ROWS] [--solver NAME] [--full]\n" in lab("man", "y86-lab")[1].replace("\\", "")
+
+
 def test_an_option_that_is_needed():
     """It has no brackets in the man page; an option of few values names them."""
     grade = next(form for form in cli.all_programs()[-1].forms if form.name == "grade")
@@ -222,6 +230,8 @@ def test_bash_completion(folder):
     same(completed(folder, "y86-stages", "a.hcl", "p.yo", "--d"), ["--diagram"])
     same(completed(folder, "y86-lab", "class", "n"), ["n.aag", "notes.txt"])
     same(completed(folder, "y86-lab", "aig", "c"), ["cnf", "confirm"])
+    same(completed(folder, "y86-lab", "aig", "confirm", "a"), ["a.hcl"])
+    same(completed(folder, "y86-lab", "aig", "confirm", "--s"), ["--solver"])
     same(completed(folder, "y86-tell", "check", "p"), ["pipe"])
     same(completed(folder, "y86-tell", "fault", "se"), ["seq", "seqplus"])
 

@@ -2,7 +2,7 @@
 from __future__ import annotations
 
 import argparse
-from dataclasses import dataclass, field
+from dataclasses import dataclass, field, replace
 from typing import Sequence
 
 
@@ -24,6 +24,8 @@ class Form:
     words: str
     options: tuple[Option, ...]
     summary: str
+    parts: tuple[Form, ...] = field(default=())
+    """The commands of a command, such as `aig cnf`."""
 
 
 @dataclass(frozen=True)
@@ -155,15 +157,25 @@ def program_of(parser: argparse.ArgumentParser, commands: dict[str, argparse.Arg
 
 def form_of(name: str, parser: argparse.ArgumentParser) -> Form:
     words, options = [], []
+    parts: tuple[Form, ...] = ()
     for action in parser._actions:  # pylint: disable=protected-access
         if isinstance(action, argparse._SubParsersAction):  # pylint: disable=protected-access
             words.append("|".join(action.choices or ()))
+            parts = parts_of(name, action)
+            options += [option for part in parts for option in part.options if option.name != "--help"]
         elif action.option_strings:
             value = str(action.metavar or "|".join(action.choices or ())) if action.nargs != 0 else ""
             options.append(Option(action.option_strings[-1], value, action.help or "", action.required))
         else:
             words.append(word_of(action))
-    return Form(name, " ".join(words), tuple(options), parser.description or "")
+    return Form(name, " ".join(words), tuple(options), parser.description or "", parts)
+
+
+def parts_of(name: str, action: argparse._SubParsersAction[argparse.ArgumentParser]) -> tuple[Form, ...]:
+    """The commands of a command."""
+    summaries = {each.dest: each.help or "" for each in action._choices_actions}  # pylint: disable=protected-access
+    parts = ((summaries[kind], form_of(f"{name} {kind}", parser)) for kind, parser in action.choices.items())
+    return tuple(replace(part, summary=summary) for summary, part in parts)
 
 
 def word_of(action: argparse.Action) -> str:
@@ -191,10 +203,10 @@ def man_page(program: Program, version: str) -> str:
         f"{roff(name)} \\- {roff(program.summary)}",
         ".SH SYNOPSIS",
     ]
-    for form in program.forms:
+    for form in (part for form in program.forms for part in form.parts or (form,)):
         lines += [".nf", f"\\fB{roff(name)}\\fR {usage(form)}".rstrip(), ".fi"]
     lines.append(".SH COMMANDS" if len(program.forms) > 1 else ".SH DESCRIPTION")
-    for form in program.forms:
+    for form in (part for form in program.forms for part in (form, *form.parts)):
         lines += [".TP", f"\\fB{roff(form.name or name)}\\fR", roff(form.summary)]
     options = dict.fromkeys(option for form in program.forms for option in form.options)
     if options:
@@ -224,7 +236,8 @@ FIXED = {"pipe"}
 
 def suffixes(form: Form) -> list[str]:
     """The suffixes of the files that a command takes; `*` for any file."""
-    words = form.words.replace("[", " ").replace("]", " ").split()
+    takes = " ".join(part.words for part in (form, *form.parts))
+    words = takes.replace("[", " ").replace("]", " ").split()
     known = dict.fromkeys(SUFFIXES[word] for word in words if word in SUFFIXES)
     return ["*"] if ANY_FILE & set(words) else list(known)
 
