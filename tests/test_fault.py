@@ -167,6 +167,8 @@ ASSEMBLY = [
     ("a label without its colon", "loop", "1:1: `loop` is no mnemonic of Y86-64. If it is a label, its `:` is missing."),
     ("a label that begins with a digit", "1loop: halt", "1:1: A label begins with a letter or `_`, and not with a digit."),
     ("a comment of another assembler", "halt ; the end", "1:6: A comment begins with `#` or `//`, not with `;`."),
+    ("a comment without its end", "halt /* the end", "1:6: A comment between `/*` and `*/` ends on its line, and nothing follows it."),
+    ("a comment before a statement", "/* the end */ halt", "1:1: A comment between `/*` and `*/` ends on its line, and nothing follows it."),
     ("a number that is pushed", "pushq $5", "1:7: `pushq` takes a register. Load the number into one by `irmovq` first."),
     ("a jump by a register", "jmp *%rax", "1:5: `jmp` goes to a fixed address, a label or a number, and not to one in a register or in memory."),
     ("an index", "mrmovq (%rax,%rbx,8), %rcx", "1:13: An address has one base register and no index: `D(rB)`."),

@@ -629,9 +629,9 @@ FAULTS = [
     ("HCL for SEQ", {"d.hcl": example("seq"), "p.yo": "0x000: 00 |\n"}, (), 5, "d.hcl:"),
     ("object text", {"d.hcl": example("std"), "p.yo": "0x000: 0 |\n"}, (), 5, "p.yo:1: "),
     ("both: the HCL file first", {"d.hcl": "word f_pc = ;\n", "p.yo": "0x000: 0 |\n"}, (), 5, "d.hcl:1:13: "),
-    ("no HCL file", {"p.yo": "0x000: 00 |\n"}, (), 3, "the file can't be read\n"),
-    ("no object file", {"d.hcl": example("std")}, (), 3, "the file can't be read\n"),
-    ("HCL too long", {"d.hcl": " " * 65537, "p.yo": "0x000: 00 |\n"}, (), 7, "the file is too long"),
+    ("no HCL file", {"p.yo": "0x000: 00 |\n"}, (), 3, "d.hcl: the file can't be read\n"),
+    ("no object file", {"d.hcl": example("std")}, (), 3, "p.yo: the file can't be read\n"),
+    ("HCL too long", {"d.hcl": " " * 65537, "p.yo": "0x000: 00 |\n"}, (), 7, "d.hcl: the file is too long"),
     ("a memory of 65 bytes", {"d.hcl": example("std"), "p.yo": "0x000: 00 |\n"}, ("--mem", "65"), 2, "the bytes of memory have to be a multiple of 8\n"),
     ("a limit of 0", {"d.hcl": example("std"), "p.yo": "0x000: 00 |\n"}, ("--limit", "0"), 2, "error: "),
 ]

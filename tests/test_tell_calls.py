@@ -189,8 +189,8 @@ def test_accepted(row, y86_tell):
 
 
 ODD_SIZE = "the bytes of memory have to be a multiple of 8\n"
-NO_FILE = "the file can't be read\n"
-TOO_LONG = "the file is too long: over 65,536 bytes for HCL, over 1,048,576 for others\n"
+NO_FILE = ": the file can't be read\n"
+TOO_LONG = ": the file is too long: over 65,536 bytes for HCL, over 1,048,576 for others\n"
 FILES = {"p.yo": "0x000: 00 |\n", "odd.yo": "0x000: 000 |\n", "std.hcl": example("std"), "long.hcl": "#" * 65537}
 FILES |= {"long.yo": "#" * 1048577, "long.ys": "#" * 1048577}
 # The words of a call, the status, and how standard error begins.
@@ -205,28 +205,28 @@ REFUSED = [
     ("program p.yo --mem 1048584", 2, "error: "),
     ("program p.yo --limit 0", 2, "error: "),
     ("program p.yo --limit 100000001", 2, "error: "),
-    ("program no.yo", 3, NO_FILE),
+    ("program no.yo", 3, "no.yo" + NO_FILE),
     ("program odd.yo", 5, "odd.yo:1: The bytes have a hex digit too few: each byte has two.\n"),
-    ("program long.yo", 7, TOO_LONG),
+    ("program long.yo", 7, "long.yo" + TOO_LONG),
     ("run std.hcl p.yo --mem 65", 2, ODD_SIZE),
     ("run std.hcl p.yo --limit 100000001", 2, "error: "),
-    ("run std.hcl long.yo", 7, TOO_LONG),
+    ("run std.hcl long.yo", 7, "long.yo" + TOO_LONG),
     ("fault", 2, "error: "),
     ("fault p.yo sequential", 2, "error: "),
     ("fault p.yo --limit 7", 2, "error: "),
     ("fault p.yo --mem 65", 2, ODD_SIZE),
-    ("fault no.hcl", 3, NO_FILE),
-    ("fault long.yo", 7, TOO_LONG),
-    ("fault long.ys", 7, TOO_LONG),
-    ("fault long.hcl", 7, TOO_LONG),
+    ("fault no.hcl", 3, "no.hcl" + NO_FILE),
+    ("fault long.yo", 7, "long.yo" + TOO_LONG),
+    ("fault long.ys", 7, "long.ys" + TOO_LONG),
+    ("fault long.hcl", 7, "long.hcl" + TOO_LONG),
     ("check std.hcl", 2, "error: "),
     ("check pipe", 2, "error: "),
     ("check pipe std.hcl --mem 64", 2, "error: "),
-    ("check seq no.hcl", 3, NO_FILE),
-    ("check seqplus no.hcl", 3, NO_FILE),
-    ("check pipe no.hcl", 3, NO_FILE),
-    ("check seq long.hcl", 7, TOO_LONG),
-    ("check pipe long.hcl", 7, TOO_LONG),
+    ("check seq no.hcl", 3, "no.hcl" + NO_FILE),
+    ("check seqplus no.hcl", 3, "no.hcl" + NO_FILE),
+    ("check pipe no.hcl", 3, "no.hcl" + NO_FILE),
+    ("check seq long.hcl", 7, "long.hcl" + TOO_LONG),
+    ("check pipe long.hcl", 7, "long.hcl" + TOO_LONG),
     ("show O1 O2", 2, "error: "),
     ("explain O1", 2, "error: "),
 ]

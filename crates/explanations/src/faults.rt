@@ -270,7 +270,7 @@ static ASSEMBLY: &[FaultKind] = &[
     },
     FaultKind {
         code: "asm.comment",
-        meaning: "A comment begins with another sign, or goes over several lines.",
+        meaning: "A comment begins with another sign, goes over several lines, or isn't the last of its line.",
         example: "    nop ; waits",
         mend: "    nop # waits",
     },

@@ -79,7 +79,7 @@ static COMMENTS: [AsmRule; 2] = [
     AsmRule {
         when: &[AsmTest::Begins(&[b"/*"])],
         code: b"asm.comment",
-        sentence: b"A comment between `/*` and `*/` ends on its line.",
+        sentence: b"A comment between `/*` and `*/` ends on its line, and nothing follows it.",
     },
 ];
 

@@ -10,6 +10,3 @@ mod watching;
 pub use laws::law_of_watching;
 pub use recent::NearFetch;
 pub use watching::{Watched, watch};
-
-#[cfg(test)]
-mod tests;

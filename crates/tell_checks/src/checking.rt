@@ -30,12 +30,12 @@ fn explained_file<'a>(bound: &'a BoundDesign, cases: &'a [CasePlace<'a>]) -> Exp
 }
 
 /// The stop at a design without control values.
-fn control_stop(
+fn control_stop<'a>(
     alloc: Global,
-    file: &str,
+    file: &'a str,
     rows: &[Row],
     fault: CtlFault,
-) -> Result<Stop, AllocError> {
+) -> Result<Stop<'a>, AllocError> {
     let mut out = String::from_str(alloc, file)?;
     match fault {
         CtlFault::Mixed(id) => {
@@ -75,17 +75,17 @@ fn explain(
 /// Explains the verdict on an HCL file. The status is 0 only if the file has a design for the datapath, and the datapath
 /// under it does what the instructions mean.
 #[tactic(auto, using(crate::proofs::Accepted::accepted))]
-pub fn check<F: Files>(
+pub fn check<'a, F: Files>(
     alloc: Global,
-    hcl: &str,
+    hcl: &'a str,
     asked: CheckQuestion,
     files: &mut F,
-) -> Result<Said, Stop>
+) -> Result<Said, Stop<'a>>
     ensures { IfOk result (λ said. said.status ≡ 0 → HasBytesWith (F.told files.old hcl.now) (IsAcceptedText asked.path asked.variant)) }
 {
     let source = match files.read(alloc, hcl, HCL_LIMIT) {
         Ok(source) => source,
-        Err(error) => return Err(unread(error)),
+        Err(error) => return Err(unread(hcl, error)),
     };
     let bound = match design_of(alloc, asked.path, source.as_slice()) {
         Ok(bound) => bound,

@@ -9,7 +9,7 @@ use tell_checks::check;
 use tell_faults::{Said, Stop, report_faults};
 use tell_runs::{report_program, tell_run};
 use tell_words::{Call, is_limit, is_size};
-use wb_io::{Files, Sink, put_all};
+use wb_io::{Files, Sink, put_all, put_pieces};
 
 /// The message for a memory whose size is no multiple of 8.
 const ODD_SIZE: &str = "the bytes of memory have to be a multiple of 8\n";
@@ -17,8 +17,12 @@ const ODD_SIZE: &str = "the bytes of memory have to be a multiple of 8\n";
 /// The message for a limit that is out of range.
 const ODD_LIMIT: &str = "the limit has to be from 1 to 100000000\n";
 
+/// The message for a file that is too long, behind its name.
+const TOO_LONG: &str =
+    ": the file is too long: over 65,536 bytes for HCL, over 1,048,576 for others\n";
+
 /// Writes the output, and returns the status.
-fn say<O: Sink>(said: Said, out: &mut O) -> Result<u8, Stop>
+fn say<'a, O: Sink>(said: Said, out: &mut O) -> Result<u8, Stop<'a>>
     ensures { IfOk result (λ status. status ≡ said.status) }
 {
     match put_all(out, said.text.as_slice()) {
@@ -28,12 +32,12 @@ fn say<O: Sink>(said: Said, out: &mut O) -> Result<u8, Stop>
 }
 
 /// Does what a call asks for, and returns the status.
-fn answer<F: Files, O: Sink>(
+fn answer<'a, F: Files, O: Sink>(
     alloc: Global,
-    call: Call<'_>,
+    call: Call<'a>,
     files: &mut F,
     out: &mut O,
-) -> Result<u8, Stop>
+) -> Result<u8, Stop<'a>>
     ensures { IfOk result (λ status. status ≡ 0 → IsRight (F.told files.old) call.entry) }
 {
     match call {
@@ -66,20 +70,18 @@ fn answer<F: Files, O: Sink>(
 }
 
 /// Writes a stop on standard error, and returns its status.
-fn tell_stop<E: Sink>(stop: &Stop, err: &mut E) -> u8
+fn tell_stop<E: Sink>(stop: &Stop<'_>, err: &mut E) -> u8
     ensures { result ≡ status_of stop.now }
 {
-    let text = match stop {
-        Stop::Usage(text) => text.as_bytes(),
-        Stop::Read => b"the file can't be read\n".as_slice(),
-        Stop::Write => b"".as_slice(),
-        Stop::Fault(text) => text.as_slice(),
-        Stop::TooLong => {
-            b"the file is too long: over 65,536 bytes for HCL, over 1,048,576 for others\n".as_slice()
-        }
-        Stop::Memory => b"out of memory\n".as_slice(),
+    let (name, text) = match stop {
+        Stop::Usage(text) => ("", text.as_bytes()),
+        Stop::Read(name) => (*name, b": the file can't be read\n".as_slice()),
+        Stop::Write => ("", b"".as_slice()),
+        Stop::Fault(text) => ("", text.as_slice()),
+        Stop::TooLong(name) => (*name, TOO_LONG.as_bytes()),
+        Stop::Memory => ("", b"out of memory\n".as_slice()),
     };
-    let _ = put_all(err, text);
+    let _ = put_pieces(err, &[name.as_bytes(), text]);
     stop.status()
 }
 

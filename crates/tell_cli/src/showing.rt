@@ -39,7 +39,7 @@ fn found_text(
 }
 
 /// Explains a word. The status is 1 if nothing has this name.
-pub fn show(alloc: Global, word: Option<&str>, json: bool) -> Result<Said, Stop> {
+pub fn show(alloc: Global, word: Option<&str>, json: bool) -> Result<Said, Stop<'static>> {
     let found = found_of(alloc, word)?;
     let text = if json {
         found_json(alloc, &found)?

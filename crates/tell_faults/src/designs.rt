@@ -68,13 +68,13 @@ pub fn design_of(alloc: Global, path: Datapath, source: &[u8]) -> Result<BoundDe
 }
 
 /// The stop at a text without a design: every fault of it.
-pub fn fault_stop(
+pub fn fault_stop<'a>(
     alloc: Global,
-    file: &str,
+    file: &'a str,
     source: &[u8],
     path: Datapath,
     fault: &NoDesign,
-) -> Stop {
+) -> Stop<'a> {
     match fault {
         NoDesign::Memory => Stop::Memory,
         NoDesign::Refused => report_stop(alloc, file, hcl_faults_of(alloc, source, Some(path))),

@@ -90,7 +90,7 @@ fn printed(alloc: Global, file: &str, report: &Report, json: bool) -> Result<Vec
 }
 
 /// The stop at a file with these faults.
-pub fn report_stop(alloc: Global, file: &str, report: Result<Report, Memory>) -> Stop {
+pub fn report_stop(alloc: Global, file: &str, report: Result<Report, Memory>) -> Stop<'_> {
     let Ok(report) = report else {
         return Stop::Memory;
     };
@@ -114,18 +114,18 @@ fn said_of(alloc: Global, file: &str, report: &Report, json: bool) -> Result<Sai
 }
 
 /// Prints every fault of a file. The status is 5 if there is one.
-pub fn report_faults<F: Files>(
+pub fn report_faults<'a, F: Files>(
     alloc: Global,
-    file: &str,
+    file: &'a str,
     asked: FaultQuestion,
     files: &mut F,
-) -> Result<Said, Stop>
+) -> Result<Said, Stop<'a>>
     requires { IsSize asked.size }
 {
     let kind = kind_of(file);
     let text = match files.read(alloc, file, limit_of(kind)) {
         Ok(text) => text,
-        Err(error) => return Err(unread(error)),
+        Err(error) => return Err(unread(file, error)),
     };
     let Ok(report) = report_of(alloc, kind, text.as_slice(), asked) else {
         return Err(Stop::Memory);

@@ -8,14 +8,20 @@ use std::alloc::Global;
 use yo_object::{YoFault, YoWhy};
 
 /// The stop at a text that is no object text: every fault of it.
-pub fn text_stop(alloc: Global, file: &str, text: &[u8], size: u64) -> Stop
+pub fn text_stop<'a>(alloc: Global, file: &'a str, text: &[u8], size: u64) -> Stop<'a>
     requires { IsSize size }
 {
     report_stop(alloc, file, object_report(alloc, text, size))
 }
 
 /// The stop at an object text with a fault.
-pub fn object_stop(alloc: Global, file: &str, text: &[u8], size: u64, fault: &YoFault) -> Stop
+pub fn object_stop<'a>(
+    alloc: Global,
+    file: &'a str,
+    text: &[u8],
+    size: u64,
+    fault: &YoFault,
+) -> Stop<'a>
     requires { IsSize size }
 {
     if fault.why == YoWhy::Memory {

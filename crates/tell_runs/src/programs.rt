@@ -14,19 +14,19 @@ use wb_io::{Files, Sink};
 /// Reports whether the theorem covers the program of an object file. The status is 0 only if the program stops within
 /// the limit, and no instruction fetches a byte that one of the three before it stored.
 #[tactic(auto, using(crate::proofs::Status::covered))]
-pub fn report_program<F: Files, O: Sink>(
+pub fn report_program<'a, F: Files, O: Sink>(
     alloc: Global,
-    file: &str,
+    file: &'a str,
     asked: ProgramQuestion,
     files: &mut F,
     out: &mut O,
-) -> Result<u8, Stop>
+) -> Result<u8, Stop<'a>>
     requires { IsSize asked.size }
     ensures { IfOk result (λ status. status ≡ 0 → HasBytesWith (F.told files.old file.now) (IsCoveredText asked.variant asked.size asked.limit)) }
 {
     let text = match files.read(alloc, file, OBJECT_LIMIT) {
         Ok(text) => text,
-        Err(error) => return Err(unread(error)),
+        Err(error) => return Err(unread(file, error)),
     };
     if is_source(text.as_slice()) {
         return Err(text_stop(alloc, file, text.as_slice(), asked.size));

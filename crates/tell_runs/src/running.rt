@@ -96,14 +96,14 @@ fn said_of(alloc: Global, asked: &RunQuestion, run: &Run) -> Result<Said, AllocE
 
 /// Runs the program of an object text under an HCL text for PIPE and by its instructions. The names of their files are
 /// for the reports of faults.
-fn report_run(
+fn report_run<'a>(
     alloc: Global,
-    hcl: &str,
-    obj: &str,
+    hcl: &'a str,
+    obj: &'a str,
     source: &[u8],
     object: &[u8],
     asked: &RunQuestion,
-) -> Result<Said, Stop>
+) -> Result<Said, Stop<'a>>
     requires size { IsSize asked.now.size }
     requires limit { asked.now.limit < 2 ^ 63 }
     ensures { IfOk result (λ said. said.status ≡ 0 → EndsAlike asked.now.variant asked.now.size asked.now.limit source.now object.now) }
@@ -118,35 +118,35 @@ fn report_run(
 
 /// The bytes of an HCL file and of an object file.
 #[tactic(auto, using(crate::proofs::Status::told_before))]
-fn bytes_of<F: Files>(
+fn bytes_of<'a, F: Files>(
     alloc: Global,
-    hcl: &str,
-    obj: &str,
+    hcl: &'a str,
+    obj: &'a str,
     files: &mut F,
-) -> Result<(Vec<u8>, Vec<u8>), Stop>
+) -> Result<(Vec<u8>, Vec<u8>), Stop<'a>>
     ensures hcl { IfOk result (λ read. HasBytes (F.told files.old hcl.now) read.0.items) }
     ensures obj { IfOk result (λ read. HasBytes (F.told files.old obj.now) read.1.items) }
 {
     let source = match files.read(alloc, hcl, HCL_LIMIT) {
         Ok(source) => source,
-        Err(error) => return Err(unread(error)),
+        Err(error) => return Err(unread(hcl, error)),
     };
     match files.read(alloc, obj, OBJECT_LIMIT) {
         Ok(object) => Ok((source, object)),
-        Err(error) => Err(unread(error)),
+        Err(error) => Err(unread(obj, error)),
     }
 }
 
 /// Runs a program under an HCL file for PIPE and by its instructions, and reports where they differ. The status is 0 only
 /// if both runs ended alike.
 #[tactic(auto, using(crate::proofs::Status::ended_alike))]
-pub fn tell_run<F: Files>(
+pub fn tell_run<'a, F: Files>(
     alloc: Global,
-    hcl: &str,
-    obj: &str,
+    hcl: &'a str,
+    obj: &'a str,
     asked: &RunQuestion,
     files: &mut F,
-) -> Result<Said, Stop>
+) -> Result<Said, Stop<'a>>
     requires size { IsSize asked.now.size }
     requires limit { asked.now.limit < 2 ^ 63 }
     ensures { IfOk result (λ said. said.status ≡ 0 → HasBytesWith (F.told files.old hcl.now) (λ source.

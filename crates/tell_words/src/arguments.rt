@@ -122,7 +122,7 @@ fn check_command<'a>(alloc: Global) -> Result<Command<'a>, AllocError> {
 fn program_command<'a>(alloc: Global) -> Result<Command<'a>, AllocError> {
     Command::new(alloc, "program")
         .about(
-            "Say whether the theorem covers a program: whether it fetches no byte that it has just stored",
+            "Say whether the theorem covers a program: it must not change code that is about to run",
         )
         .arg(obj(alloc))?
         .arg(full(alloc))?
@@ -138,9 +138,7 @@ fn run_command<'a>(alloc: Global) -> Result<Command<'a>, AllocError> {
         "Don't ask the check whether the theorem covers the run",
     );
     Command::new(alloc, "run")
-        .about(
-            "Run a program on PIPE and by its instructions, and say where they differ; and whether the theorem says beforehand that they don't",
-        )
+        .about("Run a program on PIPE and by its instructions, and say where the two runs differ")
         .arg(hcl(alloc))?
         .arg(obj(alloc))?
         .arg(full(alloc))?
