@@ -1,12 +1,12 @@
 //! The faults of assembly text, as sentences.
-ghost use Rattle.std.specs.Prelude.{◌≡◌, true, IfOk, OnOk};
+ghost use Rattle.std.specs.Prelude.{◌≡◌, IfOk, OnOk};
 ghost use Rattle.yas_asm.specs.Assembly.{assembled};
 ghost use Rattle.fault_report.specs.Told.{IsTold, Reports};
 
 use crate::asm_rules::{AsmRule, asm_rules};
 use crate::asm_tests::{AsmTest, Form};
 use crate::binding_faults::sort_faults;
-use crate::facts::{Fault, Related, Report, other_place, part};
+use crate::facts::{Fault, Related, Report, has_line, other_place, part};
 use crate::fill::{Words, filled, no_words};
 use crate::hcl_reading::{begins_with, is_text_of};
 use asm_faults::{LineFault, Part, faulty_lines, line_stop};
@@ -555,19 +555,6 @@ fn put_lines(
         }
     }
     Ok(())
-}
-
-/// Whether a fault on this line has been reported.
-#[tactic(auto, using(crate::proofs::Telling::told_at))]
-fn has_line(faults: &[Fault], line: u64) -> bool
-    ensures { result ≡ true → IsTold line faults.now }
-{
-    for fault in faults {
-        if fault.line == line {
-            return true;
-        }
-    }
-    false
 }
 
 /// Reports the assembler's first fault, unless a fault on its line has been reported.

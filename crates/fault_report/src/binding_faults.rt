@@ -1,12 +1,14 @@
 //! The faults of a file that is HCL but no design, as sentences.
+ghost use Rattle.std.specs.Prelude.{◌≡◌, ◌≢◌, [], IfOk};
 ghost use Rattle.std.specs.List.Sorted.{IsPermutation};
 ghost use Rattle.hcl_types.specs.Tables.{IsSound};
+ghost use Rattle.fault_report.specs.Told.{HasOrderedDesign};
 
 use crate::blame::{Blame, Blamed, first_blame, kind_of_row};
 use crate::facts::{Fault, Related, datapath_name, other_place};
 use crate::fill::{Words, filled, words_about};
 use crate::hcl_reading::line_of;
-use hcl_binding::{BindWhy, bind};
+use hcl_binding::{BindFault, BindWhy, bind};
 use hcl_faults::{
     ItemFault, TokenAt, TokenKind, definition_name, item_faults, item_start, missing_names,
     token_text,
@@ -602,6 +604,40 @@ fn cycle_fault(alloc: Global, source: &Source, rows: &[Row], ids: &[u32]) -> Res
     fault_at(alloc, source, token, saying_at(Said::Cycle), &words, places)
 }
 
+/// The sentence on a fault of binding for which no place was found.
+fn saying_without_place(why: BindWhy) -> Saying {
+    saying_at(match why {
+        BindWhy::Unknown => Said::Unknown,
+        BindWhy::Twice => Said::Twice,
+        BindWhy::Redefines => Said::Redefines,
+        BindWhy::KindMismatch => Said::BodyKind,
+        BindWhy::Missing | BindWhy::Memory => Said::Missing,
+    })
+}
+
+/// The faults of a file that isn't bound. The places of faults are found by the tokens of the text; if none was found,
+/// the binder's own fault is reported without a place.
+fn refused_faults(
+    alloc: Global,
+    source: &Source,
+    file: File,
+    table: &Table,
+    first: &BindFault,
+) -> Result<Vec<Fault>, Memory>
+    requires { IsSound table.now.rows }
+    ensures { IfOk result (λ faults. faults.items ≢ []) }
+{
+    let mut faults = binding_faults(alloc, source, file, table)?;
+    if faults.is_empty() {
+        let name = datapath_name(source.datapath);
+        let words = words_about(first.name.bytes(), name, b"", 0, 0);
+        let saying = saying_without_place(first.why);
+        let fault = fault_at(alloc, source, None, saying, &words, Vec::new(alloc))?;
+        push(&mut faults, fault)?;
+    }
+    Ok(faults)
+}
+
 /// The faults of a file over a table: those of binding, or a cycle of names that need each other.
 pub fn table_faults(
     alloc: Global,
@@ -610,11 +646,12 @@ pub fn table_faults(
     table: &Table,
 ) -> Result<Vec<Fault>, Memory>
     requires { IsSound table.now.rows }
+    ensures { IfOk result (λ faults. faults.items ≡ [] → HasOrderedDesign table.now.rows file.items) }
 {
     match bind(alloc, &file, table) {
         Err(fault) => match fault.why {
             BindWhy::Memory => Err(Memory),
-            _ => binding_faults(alloc, source, file, table),
+            _ => refused_faults(alloc, source, file, table, &fault),
         },
         Ok(design) => match order(alloc, &design, table) {
             Ok(_) => Ok(Vec::new(alloc)),

@@ -1,6 +1,7 @@
 //! What is reported of a file: its faults, each with its place, its sentence and related facts.
-ghost use Rattle.std.specs.Prelude.{◌≡◌};
+ghost use Rattle.std.specs.Prelude.{◌≡◌, true};
 ghost use Rattle.fault_report.specs.Datapaths as spec;
+ghost use Rattle.fault_report.specs.Told.{IsTold};
 
 use hcl_tree::Text;
 use hcl_types::{Datapath, Table};
@@ -51,6 +52,19 @@ pub struct Fault {
 pub struct Report {
     pub datapath: Option<Datapath>,
     pub faults: Items<Fault>,
+}
+
+/// Whether a fault on this line has been reported.
+#[tactic(auto, using(crate::proofs::Telling::told_at))]
+pub fn has_line(faults: &[Fault], line: u64) -> bool
+    ensures { result ≡ true → IsTold line faults.now }
+{
+    for fault in faults {
+        if fault.line == line {
+            return true;
+        }
+    }
+    false
 }
 
 /// The name of a datapath.

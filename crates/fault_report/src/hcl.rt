@@ -1,5 +1,7 @@
 //! The faults of an HCL text, for a given datapath or for the one whose names fit best.
+ghost use Rattle.std.specs.Prelude.{◌≡◌, [], IfOk};
 ghost use Rattle.hcl_types.specs.Tables.{IsSound};
+ghost use Rattle.fault_report.specs.Told.{HasTextDesign, ReportsHcl, rows_in};
 
 use crate::binding_faults::{Source, count_unknown, datapath_fault, table_faults};
 use crate::facts::{Fault, Report, Tables};
@@ -15,7 +17,8 @@ fn table_of(tables: &Tables, datapath: Datapath) -> &Table
     requires seq { IsSound tables.now.seq.rows }
     requires seq_plus { IsSound tables.now.seq_plus.rows }
     requires pipe { IsSound tables.now.pipe.rows }
-    ensures { IsSound result.now.rows }
+    ensures sound { IsSound result.now.rows }
+    ensures rows { result.now.rows ≡ rows_in tables.now datapath }
 {
     match datapath {
         Datapath::Seq => &tables.seq,
@@ -35,6 +38,7 @@ fn faults_over<'a>(
     requires seq { IsSound tables.now.seq.rows }
     requires seq_plus { IsSound tables.now.seq_plus.rows }
     requires pipe { IsSound tables.now.pipe.rows }
+    ensures { IfOk result (λ faults. faults.items ≡ [] → HasTextDesign (rows_in tables.now datapath) text.now) }
 {
     let source = Source {
         text,
@@ -86,6 +90,7 @@ fn faults_of_asked<'a>(
     requires seq { IsSound tables.now.seq.rows }
     requires seq_plus { IsSound tables.now.seq_plus.rows }
     requires pipe { IsSound tables.now.pipe.rows }
+    ensures { IfOk result (λ faults. faults.items ≡ [] → HasTextDesign (rows_in tables.now asked) text.now) }
 {
     let other = nearest(text, tokens, tables);
     let is_other = lacks(text, tokens, tables, asked) > 0
@@ -115,6 +120,7 @@ pub fn hcl_report(
     requires seq { IsSound tables.now.seq.rows }
     requires seq_plus { IsSound tables.now.seq_plus.rows }
     requires pipe { IsSound tables.now.pipe.rows }
+    ensures { IfOk result (ReportsHcl tables.now asked text.now) }
 {
     if let Some(stop) = stop_in(alloc, text)? {
         let mut out = Vec::new(alloc);

@@ -1,8 +1,11 @@
 //! The faults of object text, as sentences.
+ghost use Rattle.std.specs.Prelude.{◌≡◌, IfOk};
 ghost use Rattle.y86_base.specs.Image.{IsSize};
+ghost use Rattle.yo_object.specs.ObjectText.{object_of};
+ghost use Rattle.fault_report.specs.Told.{IsTold, ReportsObject};
 
 use crate::binding_faults::{NOTHING_SAID, Saying};
-use crate::facts::{Fault, Report, part};
+use crate::facts::{Fault, Report, has_line, part};
 use crate::fill::{filled, no_words};
 use hcl_tree::Text;
 use std::alloc::Global;
@@ -86,7 +89,9 @@ fn said_of(why: YoWhy) -> Said {
 }
 
 /// A fault of a line, or at line 0 a fault of the whole text.
-fn told(alloc: Global, line: u64, size: u64, said: Said) -> Result<Fault, Memory> {
+fn told(alloc: Global, line: u64, size: u64, said: Said) -> Result<Fault, Memory>
+    ensures { IfOk result (λ fault. fault.line ≡ line) }
+{
     let saying = saying_at(said);
     let mut words = no_words();
     words.number = size;
@@ -149,6 +154,36 @@ fn put_faults(alloc: Global, text: &[u8], size: u64, out: &mut Vec<Fault>) -> Re
     Ok(())
 }
 
+/// The faults of a text that is refused: each line with a fault, among them the first.
+#[tactic(auto, using(crate::proofs::Telling::told_last))]
+fn refused_lines(
+    alloc: Global,
+    text: &[u8],
+    size: u64,
+    first: YoFault,
+) -> Result<Vec<Fault>, Memory>
+    requires { IsSize size }
+    ensures { IfOk result (λ faults. IsTold first.line faults.items) }
+{
+    let mut out = Vec::new(alloc);
+    put_faults(alloc, text, size, &mut out)?;
+    if !has_line(out.as_slice(), first.line) {
+        push(&mut out, told(alloc, first.line, size, said_of(first.why))?)?;
+    }
+    Ok(out)
+}
+
+/// The fault of a text that is accepted, but puts no byte anywhere; none if it puts one.
+fn empty_text(alloc: Global, text: &[u8], size: u64) -> Result<Vec<Fault>, Memory> {
+    let mut out = Vec::new(alloc);
+    if !has_bytes(text) {
+        let line = statement_line(text);
+        let said = if line > 0 { Said::Source } else { Said::Empty };
+        push(&mut out, told(alloc, line, size, said)?)?;
+    }
+    Ok(out)
+}
+
 /// Whether any line puts a byte.
 fn has_bytes(text: &[u8]) -> bool {
     let mut rest = text;
@@ -189,17 +224,19 @@ pub fn is_source(text: &[u8]) -> bool {
 /// statement if the text is a source. Without faults it is accepted, and puts at least one byte.
 pub fn object_report(alloc: Global, text: &[u8], size: u64) -> Result<Report, Memory>
     requires { IsSize size }
+    ensures { IfOk result (λ report. ReportsObject (object_of text.now size) report.faults) }
 {
-    let mut out = Vec::new(alloc);
-    put_faults(alloc, text, size, &mut out)?;
-    if out.is_empty() && !has_bytes(text) {
-        let line = statement_line(text);
-        let said = if line > 0 { Said::Source } else { Said::Empty };
-        let fault = told(alloc, line, size, said)?;
-        push(&mut out, fault)?;
-    }
+    let faults = match load(alloc, text, size) {
+        Ok(_) => empty_text(alloc, text, size)?,
+        Err(first) => {
+            if first.why == YoWhy::Memory {
+                return Err(Memory);
+            }
+            refused_lines(alloc, text, size, first)?
+        }
+    };
     Ok(Report {
         datapath: None,
-        faults: Items::of(out),
+        faults: Items::of(faults),
     })
 }

@@ -1,4 +1,5 @@
 pub mod Designs
+pub mod Faultless
 pub mod Faults
 pub mod Stops
 pub mod Told

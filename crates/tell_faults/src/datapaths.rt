@@ -1,6 +1,8 @@
 //! The tables of signals of the three datapaths.
 ghost use Rattle.std.specs.Prelude.{◌≡◌, IfOk};
+ghost use Rattle.fault_report.specs.Told.{rows_in};
 ghost use Rattle.hcl_types.specs.Tables.{IsSound};
+ghost use Rattle.hcl_types.specs.declared.table.Datapath.{Datapath};
 ghost use Rattle.seq_plus.specs.Datapaths.{table_rows};
 
 use dp_signals::{law_of_tables, pipe_table};
@@ -27,6 +29,7 @@ pub fn tables(alloc: Global) -> Result<Tables, Memory>
     ensures seq { IfOk result (λ t. IsSound t.seq.rows) }
     ensures seq_plus { IfOk result (λ t. IsSound t.seq_plus.rows) }
     ensures pipe { IfOk result (λ t. IsSound t.pipe.rows) }
+    ensures rows { IfOk result (λ t. (path : Datapath) → rows_in t path ≡ table_rows path) }
 {
     let seq = table_of(alloc, Datapath::Seq)?;
     let seq_plus = table_of(alloc, Datapath::SeqPlus)?;

@@ -1,7 +1,13 @@
 //! `fault`: every fault of a file, in sentences or as JSON.
 ghost use Rattle.std.specs.Prelude.{◌≡◌, ◌↔◌, [], IfOk};
 ghost use Rattle.y86_base.specs.Image.{IsSize};
+ghost use Rattle.fault_report.specs.Told.{IsWanted, HasTextDesign};
+ghost use Rattle.hcl_types.specs.declared.table.Datapath.{Datapath};
+ghost use Rattle.seq_plus.specs.Datapaths.{table_rows};
+ghost use Rattle.tell_faults.specs.Faultless.{IsFaultlessFile, IsFaultlessText};
+ghost use Rattle.tell_faults.specs.Faultless as kinds;
 ghost use Rattle.tell_faults.specs.Faults as spec;
+ghost use Rattle.tell_faults.specs.Told.{HasBytesWith};
 
 use crate::datapaths::tables;
 use crate::said::Said;
@@ -16,7 +22,7 @@ use y86_base::Memory;
 
 /// What a file is, by the end of its name.
 #[derive(Clone, Copy, Debug, PartialEq, Eq)]
-enum Kind {
+pub enum Kind {
     Hcl,
     Assembly,
     Object,
@@ -41,7 +47,9 @@ fn limit_of(kind: Kind) -> u64 {
 }
 
 /// What a file is: `.hcl`, `.yo`, and assembly otherwise.
-fn kind_of(file: &str) -> Kind {
+fn kind_of(file: &str) -> Kind
+    ensures { result ≡ kinds.kind_of file.now }
+{
     let name = file.as_bytes();
     if name.ends_with(b".hcl") {
         Kind::Hcl
@@ -53,18 +61,18 @@ fn kind_of(file: &str) -> Kind {
 }
 
 /// The faults of an HCL text, for the datapath that is asked for, or for the one whose names fit best.
-pub fn hcl_faults_of(
-    alloc: Global,
-    text: &[u8],
-    asked: Option<Datapath>,
-) -> Result<Report, Memory> {
+pub fn hcl_faults_of(alloc: Global, text: &[u8], asked: Option<Datapath>) -> Result<Report, Memory>
+    ensures { IfOk result (λ report. report.faults ≡ [] → (path : Datapath) × IsWanted asked path × HasTextDesign (table_rows path) text.now) }
+{
     let tables = tables(alloc)?;
     hcl_report(alloc, text, &tables, asked)
 }
 
 /// The faults of a text.
+#[tactic(auto, using(crate::proofs::Faultless::source_accepted, crate::proofs::Faultless::object_accepted))]
 fn report_of(alloc: Global, kind: Kind, text: &[u8], asked: FaultQuestion) -> Result<Report, Memory>
     requires { IsSize asked.size }
+    ensures { IfOk result (λ report. report.faults ≡ [] → IsFaultlessText kind asked text.now) }
 {
     match kind {
         Kind::Hcl => hcl_faults_of(alloc, text, asked.path),
@@ -113,7 +121,8 @@ fn said_of(alloc: Global, file: &str, report: &Report, json: bool) -> Result<Sai
     }
 }
 
-/// Prints every fault of a file. The status is 5 if there is one.
+/// Prints every fault of a file. The status is 5 if there is one; it is 0 only if the file is accepted.
+#[tactic(auto, using(crate::proofs::Faultless::faultless))]
 pub fn report_faults<'a, F: Files>(
     alloc: Global,
     file: &'a str,
@@ -121,6 +130,7 @@ pub fn report_faults<'a, F: Files>(
     files: &mut F,
 ) -> Result<Said, Stop<'a>>
     requires { IsSize asked.size }
+    ensures { IfOk result (λ said. said.status ≡ 0 → HasBytesWith (F.told files.old file.now) (IsFaultlessFile file.now asked)) }
 {
     let kind = kind_of(file);
     let text = match files.read(alloc, file, limit_of(kind)) {

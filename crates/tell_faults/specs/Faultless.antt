@@ -1,0 +1,27 @@
+-- What status 0 of `fault` says of a file.
+use Rattle.std.specs.Prelude.{◌≡◌, ℕ, nat_eq, List, Ok, codes, if◌then◌else◌}
+use Rattle.std.specs.List.{ends_with}
+use Rattle.fault_report.specs.Told.{HasTextDesign, IsWanted}
+use Rattle.hcl_types.specs.declared.table.Datapath.{Datapath}
+use Rattle.seq_plus.specs.Datapaths.{table_rows}
+use Rattle.tell_faults.specs.declared.faulty.Kind.{Kind}
+use Rattle.tell_faults.specs.declared.faulty.Kind.TheVariants.{Assembly, Hcl, Object}
+use Rattle.tell_words.specs.declared.questions.FaultQuestion.{FaultQuestion}
+use Rattle.yas_asm.specs.Assembly.{assembled}
+use Rattle.yas_asm.specs.declared.listing.Line.{Line}
+use Rattle.yo_object.specs.ObjectText.{object_of}
+
+-- what a file is, by the end of its name
+abbrev pub kind_of : List ℕ → Kind
+kind_of name = if ends_with nat_eq name (codes ".hcl") then Hcl else if ends_with nat_eq name (codes ".yo") then Object else Assembly
+
+-- an HCL text is a design for the datapath that is asked for, or for some datapath if none is; the assembler accepts a
+-- source; an object text is loaded
+abbrev pub IsFaultlessText : Kind → FaultQuestion → List ℕ → Type 0
+IsFaultlessText Hcl asked text = (path : Datapath) × IsWanted asked.path path × HasTextDesign (table_rows path) text
+IsFaultlessText Assembly asked text = (lines : List Line) × (assembled asked.variant text asked.size ≡ Ok lines)
+IsFaultlessText Object asked text = (image : List ℕ) × (object_of text asked.size ≡ Ok image)
+
+-- the text of a file with this name
+abbrev pub IsFaultlessFile : List ℕ → FaultQuestion → List ℕ → Type 0
+IsFaultlessFile name asked text = IsFaultlessText (kind_of name) asked text
