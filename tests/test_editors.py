@@ -106,7 +106,7 @@ def test_vim(mistakes, programs):
     with open(f"{mistakes}/said", encoding="utf-8") as file:
         said = file.read().splitlines()
     same([line for line in said if not line.startswith("other.hcl")], ["no.hcl y86hcl", "no.hcl:124:1: O23: D is stalled and bubbled at once. Inverting D_bubble repairs it.",
-        "name.hcl y86hcl", "name.hcl:64:6: `e_valE` cannot be defined: it is a constant of PIPE, or the datapath computes it.", "p.ys ys", f"p.ys:2:3: {NO_MOVQ}"])
+        "name.hcl y86hcl", "name.hcl:64:6: `e_valE` cannot be defined: it is a constant of PIPE, or the hardware computes it.", "p.ys ys", f"p.ys:2:3: {NO_MOVQ}"])
     assert "other.hcl y86hcl" not in said
 
 

@@ -120,7 +120,7 @@ DEFINITIONS = [
     ("a cycle", "word aluB = aluA;\nword aluA = aluB;\n", ["2:6: `aluA` depends on itself: `aluA` needs `aluB`, `aluB` needs `aluA`."]),
     ("a fault in a later column of an earlier line", "bool set_cc = E_icode == IOPQ || 2;\nword aluC = 1;\n", [
         "1:34: `2` is a word, and a Boolean, 0 or 1, belongs here, in the definition of `set_cc`.",
-        "2:6: `aluC` is no name of PIPE: a file uses and defines the names of its datapath alone."]),
+        "2:6: `aluC` is neither a signal nor a constant of PIPE."]),
 ]
 
 
@@ -159,6 +159,9 @@ ASSEMBLY = [
     ("a comparison of x86", "cmpq %rax, %rbx", "1:1: Y86-64 has no `cmpq`. `subq` sets the same flags: copy one operand into a register that is free and subtract there."),
     ("a number for a register", "addq $1, %rax", "1:6: `addq` works on two registers. Load the number into a register by `irmovq` first."),
     ("a comma that is missing", "irmovq 5 %rax", "1:10: The `,` between the operands is missing before `%rax`. Write `irmovq V, rB`."),
+    ("a negative number in hex digits", "irmovq $-0x5, %rax", "1:11: A number is decimal, perhaps with a `-`, or it is `0x` and hex digits."),
+    ("a number with other digits", "irmovq $0xZZ, %rax", "1:10: A number is decimal, perhaps with a `-`, or it is `0x` and hex digits."),
+    ("a number with a point", "irmovq $1.5, %rax", "1:10: A number is decimal, perhaps with a `-`, or it is `0x` and hex digits."),
     ("register 15", "addq %rax, %r15", "1:12: Y86-64 has no `%r15`: the number 15 means \"no register\". There are `%rax` `%rcx` `%rdx` `%rbx` `%rsp` `%rbp` `%rsi` `%rdi` and `%r8` to `%r14`."),
     ("capital letters", "ADDQ %rax, %rbx", "1:1: `ADDQ` is written in lower case: mnemonics, directives and registers have no capital letters."),
     ("a jump to nowhere", "jmp", "1:4: A number or a label is missing at the end of the line. Write `jmp V`."),

@@ -186,7 +186,7 @@ MANY = "D_valC == 0" + "".join(f" || D_valC == {it}" for it in range(1, 65))
 WRONG = ["mine.hcl:1:6: `F_bubble` is a Boolean: its definition begins with `bool`.", "", "       1 | word F_bubble = 0;", "         |      ^"]
 FIRST_LINES = [
     ("65 comparisons", std(F_bubble=MANY),
-        ["mine.hcl: the definitions compare more than 64 different pairs of words, too many for the check."]),
+        ["mine.hcl: the definitions compare more than 64 different pairs of words, and the check takes 64 at most."]),
     ("a wrong declaration", "wordsig M_Cnd 'M'\n" + design("std"),
         ["mine.hcl:1:9: `M_Cnd` is a Boolean: its declaration begins with `boolsig`.", "", "       1 | wordsig M_Cnd 'M'", "         |         ^"]),
     ("a wrong definition", "word F_bubble = 0;\nboolsig F_bubble 'F'\n", WRONG),

@@ -28,7 +28,7 @@ def lab(programs, folder):
     return call
 
 
-NO_NAME = "`{}` is no name of PIPE: a file uses and defines the names of its datapath alone."
+NO_NAME = "`{}` is neither a signal nor a constant of PIPE."
 WRONG = changed(design("std"), d_valA="[ D_icode in { ICALL, IJXX } : D_valP; d_srcA == M_dstE : M_valE; @ ]")
 PLACES = [
     (example("std"), 0, "a.hcl: yes\n"),

@@ -223,7 +223,7 @@ def test_settings_in_words(y86_tell):
     same(lines[0], "Forward jumps that it predicts as taken: jmp.")
     same(lines[1], "Backward jumps that it predicts as taken: jmp, jle, jl, je, jne, jge, jg.")
     same(len(lines), 6)
-    same(lines[4].rpartition(": ")[2], "it then costs one bubble.")
+    same(lines[4].rpartition(": ")[2], "it may then cost only one bubble.")
 
 
 # Programs for the witness.

@@ -486,7 +486,7 @@ In cycle 6 the pipeline retires instruction 2 of the program, and does it wrong:
 
 The instruction before is right.
 
-The check with --full says no to this file: O2 is false somewhere. `y86-tell check pipe` explains it.
+The check with --full says no to this file: O2 is false somewhere. `y86-tell check pipe --full` explains it.
 """ + NOT_COVERED),
     ("a file that is mixed", MIXED, program("load_use"), (), """\
 The pipeline does what the instructions say: 3 instructions in 8 cycles, and status HLT.
@@ -574,8 +574,8 @@ PREMISES = [
 STOPS = """\
 The program stops in step {}.
 No instruction fetches a byte that one of the three instructions before it stored.
-Under every HCL file that `y86 check pipe` accepts, `y86 psim` therefore reports what `y86 yis` reports,
-with the same --mem and --full, and with a --limit of at least five cycles for each step.
+Under every HCL file that `y86 check pipe` accepts, `y86 psim` therefore reports what `y86 yis` reports.
+All three need the same --full; the runs need the same --mem, and `y86 psim` a --limit of at least five cycles for each step.
 """
 MEETS = """\
 The instruction at {0} fetches a byte that the instruction at {1} stored {3} before.
@@ -632,7 +632,7 @@ FAULTS = [
     ("no HCL file", {"p.yo": "0x000: 00 |\n"}, (), 3, "d.hcl: the file can't be read\n"),
     ("no object file", {"d.hcl": example("std")}, (), 3, "p.yo: the file can't be read\n"),
     ("HCL too long", {"d.hcl": " " * 65537, "p.yo": "0x000: 00 |\n"}, (), 7, "d.hcl: the file is too long"),
-    ("a memory of 65 bytes", {"d.hcl": example("std"), "p.yo": "0x000: 00 |\n"}, ("--mem", "65"), 2, "the bytes of memory have to be a multiple of 8\n"),
+    ("a memory of 65 bytes", {"d.hcl": example("std"), "p.yo": "0x000: 00 |\n"}, ("--mem", "65"), 2, "--mem takes a multiple of 8 from 64 to 1048576\n"),
     ("a limit of 0", {"d.hcl": example("std"), "p.yo": "0x000: 00 |\n"}, ("--limit", "0"), 2, "error: "),
 ]
 
@@ -645,13 +645,16 @@ def test_faults(row, y86_tell):
 
 
 def test_a_source_in_place_of_its_object(y86_tell):
-    """It would be an empty program. Without a statement it is one."""
+    """It would be an empty program. So is a text that puts no byte, as `yas` leaves it of a source that it refuses."""
     source = "# nothing yet\n\nmain: halt\n"
     refused = "p.ys:3: This is a source and no object file: assemble it by `yas` first. As an object file it puts no byte anywhere.\n"
     files = {"d.hcl": example("std"), "p.ys": source}
     same(y86_tell("run", "d.hcl", "p.ys", files=files).text(), (5, "", refused))
     same(y86_tell("program", "p.ys", files=files).text(), (5, "", refused))
-    same(y86_tell("program", "p.ys", files={"p.ys": "# nothing yet\n"}).status, 0)
+    for nothing in ("", "# nothing yet\n", "0x000: |\n"):
+        empty = "p.yo: No line puts a byte anywhere. If `yas` refused the source, mend it and assemble it again.\n"
+        same(y86_tell("program", "p.yo", files={"p.yo": nothing}).text(), (5, "", empty))
+        same(y86_tell("run", "d.hcl", "p.yo", files={**files, "p.yo": nothing}).text(), (5, "", empty))
 
 
 def test_out_of_memory(y86_tell, folder):

@@ -12,8 +12,8 @@ from helpers.designs import changed, design, example
 
 STOPS = (
     "The program stops in step {}.\nNo instruction fetches a byte that one of the three instructions before it stored.\n"
-    "Under every HCL file that `y86 check pipe` accepts, `y86 psim` therefore reports what `y86 yis` reports,\n"
-    "with the same --mem and --full, and with a --limit of at least five cycles for each step.\n"
+    "Under every HCL file that `y86 check pipe` accepts, `y86 psim` therefore reports what `y86 yis` reports.\n"
+    "All three need the same --full; the runs need the same --mem, and `y86 psim` a --limit of at least five cycles for each step.\n"
 )
 OPEN = (
     "The program hasn't stopped by the end of step {}.\nSo far no instruction has fetched a byte that one of the three instructions before it stored.\n"
@@ -139,8 +139,11 @@ def test_datapath(row, y86_tell):
     same(json.loads(y86_tell("fault", "f.hcl", *words, "--json", files={"f.hcl": text}).out)["datapath"], wanted)
 
 
-MIXED = "d.hcl: {} joins a code with a word of the datapath, and the check has no meaning for that.\n"
-OVER_64 = "d.hcl: the definitions compare more than 64 different pairs of words, too many for the check.\n"
+MIXED = (
+    "d.hcl: `{}` joins a code (an icode, a register number, a status) with a word of 64 bits. The check can't decide that: compare codes with codes, "
+    "and words with words.\n"
+)
+OVER_64 = "d.hcl: the definitions compare more than 64 different pairs of words, and the check takes 64 at most.\n"
 MANY = f"valA in {{ {', '.join(str(number) for number in range(2, 67))} }}"
 # A design, what is changed, and what `check` says.
 NO_VERDICT = [
@@ -188,7 +191,7 @@ def test_accepted(row, y86_tell):
     same((said["verdict"], said["full"], said["names_iaddq"]), ("yes", is_full, is_named))
 
 
-ODD_SIZE = "the bytes of memory have to be a multiple of 8\n"
+ODD_SIZE = "--mem takes a multiple of 8 from 64 to 1048576\n"
 NO_FILE = ": the file can't be read\n"
 TOO_LONG = ": the file is too long: over 65,536 bytes for HCL, over 1,048,576 for others\n"
 FILES = {"p.yo": "0x000: 00 |\n", "odd.yo": "0x000: 000 |\n", "std.hcl": example("std"), "long.hcl": "#" * 65537}

@@ -374,7 +374,7 @@ SENTENCES = {
     ),
     "je": (
         "A mispredicted jump is repaired while it is in memory: it costs two bubbles.",
-        "A mispredicted jump may be repaired while it is in execute: it then costs one bubble.",
+        "A mispredicted jump may be repaired while it is in execute: it may then cost only one bubble.",
     ),
     "rm": ("A return goes on from write-back: it costs three bubbles.", "A return may go on from memory: it then costs two bubbles."),
 }

@@ -179,7 +179,7 @@ def test_shared_names(row, y86_tell):
 
 def test_unknown_word(y86_tell):
     for word in ("O28", "S17", "mrmov", "hcl.", "O"):
-        wanted = f"{word} is no obligation, no instruction, no signal and no code of a fault. y86-tell show lists all names.\n"
+        wanted = f"{word} is no obligation, no instruction, no signal that a file defines, and no code of a fault. y86-tell show lists these; docs/HCL.md has the other names.\n"
         same(y86_tell("show", word).text(), (1, wanted, ""))
     answer = y86_tell("show", "O28", "--json")
     assert (answer.status, json.loads(answer.out)) == (1, {"obligations": [], "instructions": [], "signals": [], "faults": []})

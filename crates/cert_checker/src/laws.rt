@@ -12,8 +12,8 @@ pub fn law_of_faults()
     ensures { FaultsAreFirst }
 {}
 
-/// A certificate can be refused for another net with as many variables only because of that net's gates: its form, its
-/// numbers and its claims are right there too.
+/// A certificate can be refused for another net with as many variables and the same settings only because of that net's
+/// gates: its form, its numbers and its claims are right there too.
 pub fn law_of_other_nets()
     ensures { OthersRefuseByGates }
 {}

@@ -40,8 +40,8 @@ fn say_seq<'a, O: Sink>(
     }
 }
 
-/// `check seq` and `check seqplus`: decides whether SEQ or SEQ+ under an HCL file does what its instructions mean, for
-/// every program.
+/// `check seq` and `check seqplus`: decides whether an HCL file meets the obligations of SEQ or SEQ+. After a `yes` the
+/// datapath under it does what the instructions mean, for every program.
 pub fn check_seq_file<'a, F: Files, O: Sink>(
     alloc: Global,
     which: SequentialDatapath,
@@ -79,8 +79,8 @@ fn say_pipe<'a, O: Sink>(
     }
 }
 
-/// `check pipe`: decides whether PIPE under an HCL file does what its instructions mean, for every program that doesn't
-/// store over one of the next three instructions.
+/// `check pipe`: decides whether an HCL file meets the obligations of PIPE. After a `yes` PIPE under it does what the
+/// instructions mean, for every program that doesn't store over one of the next three instructions.
 pub fn check_pipe_file<'a, F: Files, O: Sink>(
     alloc: Global,
     name: &'a str,

@@ -58,8 +58,8 @@ fn say_certificate<'a, O: Sink>(
     }
 }
 
-/// `check pipe` with `--cert`: decides whether PIPE under an HCL file does what its instructions mean, for every
-/// program that doesn't store over one of the next three instructions, and if so writes a certificate.
+/// `check pipe` with `--cert`: decides whether an HCL file meets the obligations of PIPE, and if it does writes a
+/// certificate. What a `yes` says holds then, too.
 pub fn certify_pipe_file<'a, F: Files, O: Sink>(
     alloc: Global,
     name: &'a str,

@@ -1,5 +1,5 @@
 -- Which faults of a file are reported.
-use Rattle.std.specs.Prelude.{ℕ, ◌≡◌, List, [], Option, Some, Result, Ok, Err}
+use Rattle.std.specs.Prelude.{ℕ, ◌≡◌, List, [], Option, Some, None, Result, Ok, Err}
 use Rattle.std.specs.List.{Contains}
 use Rattle.hcl_binding.specs.Binding.{bound}
 use Rattle.hcl_order.specs.Dependence.{Depends}

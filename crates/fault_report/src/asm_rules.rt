@@ -577,7 +577,7 @@ fn bases() -> &'static [AsmRule] {
     &BASES
 }
 
-static COMMAS: [AsmRule; 5] = [
+static COMMAS: [AsmRule; 6] = [
     AsmRule {
         when: &[
             AsmTest::Wants(&[Part::Comma]),
@@ -608,6 +608,15 @@ static COMMAS: [AsmRule; 5] = [
         when: &[AsmTest::Wants(&[Part::Comma]), AsmTest::AtEnd],
         code: b"asm.operand",
         sentence: b"The second operand is missing. Write `~name~~usage~`.",
+    },
+    AsmRule {
+        when: &[
+            AsmTest::Wants(&[Part::Comma]),
+            AsmTest::Of(&[Form::Immediate]),
+            AsmTest::Begins(&[b"x", b"X", b"."]),
+        ],
+        code: b"asm.operand",
+        sentence: b"A number is decimal, perhaps with a `-`, or it is `0x` and hex digits.",
     },
     AsmRule {
         when: &[AsmTest::Wants(&[Part::Comma])],

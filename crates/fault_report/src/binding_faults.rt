@@ -118,7 +118,7 @@ static BINDING_SAYINGS: [Saying; 14] = [
     Saying {
         code: b"hcl.unknown",
         reason: b"Unknown",
-        pattern: b"`~found~` is no name of ~name~: a file uses and defines the names of its datapath alone.",
+        pattern: b"`~found~` is neither a signal nor a constant of ~name~.",
     },
     Saying {
         code: b"hcl.twice",
@@ -133,7 +133,7 @@ static BINDING_SAYINGS: [Saying; 14] = [
     Saying {
         code: b"hcl.redefines",
         reason: b"Redefines",
-        pattern: b"`~found~` cannot be defined: it is a constant of ~name~, or the datapath computes it.",
+        pattern: b"`~found~` cannot be defined: it is a constant of ~name~, or the hardware computes it.",
     },
     Saying {
         code: b"hcl.kind",

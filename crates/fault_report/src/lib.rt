@@ -19,5 +19,5 @@ mod show;
 pub use assembly::assembly_report;
 pub use facts::{Fault, Related, Report, Tables, datapath_name};
 pub use hcl::hcl_report;
-pub use object::{is_source, object_report};
+pub use object::{has_bytes, object_report};
 pub use show::sentences_of;

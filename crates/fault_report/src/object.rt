@@ -48,7 +48,7 @@ static OBJECT_SAYINGS: [Saying; 7] = [
     Saying {
         code: b"yo.empty",
         reason: b"NoBytes",
-        pattern: b"No line puts a byte anywhere: a program of it is one `halt` at address 0.",
+        pattern: b"No line puts a byte anywhere. If `yas` refused the source, mend it and assemble it again.",
     },
 ];
 
@@ -185,7 +185,7 @@ fn empty_text(alloc: Global, text: &[u8], size: u64) -> Result<Vec<Fault>, Memor
 }
 
 /// Whether any line puts a byte.
-fn has_bytes(text: &[u8]) -> bool {
+pub fn has_bytes(text: &[u8]) -> bool {
     let mut rest = text;
     'lines: while let Some((line, behind)) = first_line(rest) {
         if let Some(digits) = line_digits(line) {
@@ -213,11 +213,6 @@ fn statement_line(text: &[u8]) -> u64 {
         rest = behind;
     }
     0
-}
-
-/// Whether a text is a source instead of an object text: no line puts a byte, and one is a statement of assembly.
-pub fn is_source(text: &[u8]) -> bool {
-    !has_bytes(text) && statement_line(text) > 0
 }
 
 /// The faults of an object text for a memory of a size: each faulty line, or that no line puts a byte, at the first

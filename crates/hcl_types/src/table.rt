@@ -11,7 +11,7 @@ use y86_base::Items;
 pub enum Class {
     /// A constant.
     Number,
-    /// A code of 4 bits: an instruction or function code, a status, a register.
+    /// A code: an instruction or function code, a status, a register. It is a number of 64 bits, and nothing cuts it to 4.
     Code,
     /// A word of 64 bits.
     Value,

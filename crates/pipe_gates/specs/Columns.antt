@@ -8,7 +8,7 @@ use Rattle.y86_isa.specs.Blocks.{is_load, is_store}
 use Rattle.pipe_gates.specs.declared.columns.RowTest.{RowTest}
 use Rattle.pipe_gates.specs.declared.columns.RowTest.TheVariants.{Ret, Jump, StoresA, CarriesP, CarriesA, Loads, Stores, SetsFlags, Conditional, Computes}
 
--- the row's instruction is a ret, is a conditional jump, stores valA, carries valP in the place of valA, carries valA
+-- the row's instruction is a ret, is a jump, stores valA, carries valP in the place of valA, carries valA
 -- itself, reads memory, writes it, sets the flags, has a conditional destination, uses the ALU
 abbrev pub row_passes : Row → RowTest → Bool
 row_passes r Ret = next_is_val_m r.next

@@ -7,7 +7,7 @@ use y86_isa::{
     select_a_is_val_p, stores_val_a,
 };
 
-/// A test on a row of the instruction table: its instruction is a ret, is a conditional jump, stores valA, carries valP in
+/// A test on a row of the instruction table: its instruction is a ret, is a jump (also `jmp`), stores valA, carries valP in
 /// the place of valA to M, carries valA itself there, reads memory, writes it, sets the flags, has a destination only where
 /// its condition holds, uses the ALU.
 #[derive(Clone, Copy, Debug, PartialEq, Eq)]

@@ -35,7 +35,7 @@ fn stops(b: &mut NetBuilder, stat: BitRange, fault: BitRange) -> Result<u64, Mem
     b.not(goes_on)
 }
 
-/// A conditional jump with status 1 (AOK).
+/// A jump, also `jmp`, with status 1 (AOK).
 pub fn jump(b: &mut NetBuilder, v: Variant, stat: BitRange, icode: BitRange) -> Result<u64, Memory>
     requires stat_place { stat.first + stat.bits ≤ b.old.vars }
     requires icode_place { icode.first + icode.bits ≤ b.old.vars }

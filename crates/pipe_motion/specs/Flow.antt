@@ -43,7 +43,7 @@ no_good_behind_wrong v = not (v.e.wrong && v.d.good)
 abbrev pub youngest_stops_alone : Flow → Bool
 youngest_stops_alone v = not (v.e.stops && is_followed_e v) && (not (v.m.stops && is_followed_m v) && not (v.w.stops && is_followed_w v))
 
--- the youngest good instruction, if there is one, is a missed jump in E; or it stops, and it isn't a ret or is in W
+-- there is a good instruction, and the youngest one is a missed jump in E, or stops and isn't a ret unless it is in W
 abbrev pub wrong_may_follow : Flow → Bool
 wrong_may_follow v =
     if v.d.good then v.d.stops && not v.d.ret

@@ -112,7 +112,7 @@ fn fetched_stops(b: &mut NetBuilder, inputs: &RuleInputs<'_>) -> Result<u64, Mem
     b.not(goes_on)
 }
 
-/// The fetched instruction is a conditional jump with status 1 (AOK).
+/// The fetched instruction is a jump, also `jmp`, with status 1 (AOK).
 fn fetched_jumps(b: &mut NetBuilder, ctl: &Controls, v: Variant) -> Result<u64, Memory>
     requires inside { IsInside b.old ctl.now }
     requires stat_known { IsTrue (has_picks ctl.now names.f_stat) }

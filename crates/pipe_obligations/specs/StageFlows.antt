@@ -34,7 +34,7 @@ stops_by stat fault = not (stat == 1) || set fault
 abbrev pub is_ret : Variant → ℕ → Bool
 is_ret v icode = next_is_val_m (row v icode).next
 
--- a conditional jump with status 1 (AOK)
+-- a jump, also `jmp`, with status 1 (AOK)
 abbrev pub is_jump : Variant → ℕ → ℕ → Bool
 is_jump v stat icode = stat == 1 && next_is_branch (row v icode).next
 

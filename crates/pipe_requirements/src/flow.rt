@@ -71,7 +71,7 @@ fn stage_flow_by(kind: u64, stops: bool, ret: bool, missed: bool) -> StageFlowNo
     }
 }
 
-/// A conditional jump with status 1 (AOK).
+/// A jump, also `jmp`, with status 1 (AOK).
 pub fn is_jump(v: Variant, stat: u64, icode: u64) -> bool
     ensures { result ≡ spec.is_jump v stat icode }
 {

@@ -10,7 +10,7 @@ use Rattle.y86_base.specs.Numeral.{numeral}
 unfoldable pub stops_text : ℕ → List ℕ
 stops_text steps =
     concat (codes "The program stops in step " ∷ numeral 10 1 steps
-    ∷ codes ".\nNo instruction fetches a byte that one of the three instructions before it stored.\nUnder every HCL file that `y86 check pipe` accepts, `y86 psim` therefore reports what `y86 yis` reports,\nwith the same --mem and --full, and with a --limit of at least five cycles for each step.\n"
+    ∷ codes ".\nNo instruction fetches a byte that one of the three instructions before it stored.\nUnder every HCL file that `y86 check pipe` accepts, `y86 psim` therefore reports what `y86 yis` reports.\nAll three need the same --full; the runs need the same --mem, and `y86 psim` a --limit of at least five cycles for each step.\n"
     ∷ [])
 
 -- it hasn't stopped within the limit

@@ -21,7 +21,7 @@ fn put_stops<O: Sink>(steps: u64, out: &mut O) -> Result<(), Failed>
         &[
             b"The program stops in step ",
             steps.as_bytes(),
-            b".\nNo instruction fetches a byte that one of the three instructions before it stored.\nUnder every HCL file that `y86 check pipe` accepts, `y86 psim` therefore reports what `y86 yis` reports,\nwith the same --mem and --full, and with a --limit of at least five cycles for each step.\n",
+            b".\nNo instruction fetches a byte that one of the three instructions before it stored.\nUnder every HCL file that `y86 check pipe` accepts, `y86 psim` therefore reports what `y86 yis` reports.\nAll three need the same --full; the runs need the same --mem, and `y86 psim` a --limit of at least five cycles for each step.\n",
         ],
     )
 }

@@ -61,13 +61,13 @@ pub fn put_settings(out: &mut String, s: &Settings) -> Result<(), AllocError> {
     put_choice(
         out,
         s.je,
-        "A mispredicted jump may be repaired while it is in execute: it then costs one bubble.",
+        "A mispredicted jump may be repaired while it is in execute: it may then cost only one bubble.",
         "A mispredicted jump is repaired while it is in memory: it costs two bubbles.",
     )?;
     put_choice(
         out,
         s.rm,
-        "A return may go on from memory: it then costs two bubbles.",
+        "A return may go on from memory: it may then cost only two bubbles.",
         "A return goes on from write-back: it costs three bubbles.",
     )
 }

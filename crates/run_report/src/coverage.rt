@@ -29,10 +29,11 @@ fn put_judged(
         Judged::Yes => put(out, b"says yes to this file: all 27 obligations hold.\n"),
         Judged::No(rule) => {
             put_number_pair(out, b"says no to this file: O", u64::from(rule))?;
-            put(
-                out,
-                b" is false somewhere. `y86-tell check pipe` explains it.\n",
-            )
+            put(out, b" is false somewhere. `y86-tell check pipe")?;
+            if variant == Variant::Full {
+                put(out, b" --full")?;
+            }
+            put(out, b"` explains it.\n")
         }
         Judged::Unknown(CtlFault::Mixed(id)) => {
             put(out, b"has no answer for this file: ")?;

@@ -42,11 +42,11 @@ fn control_stop<'a>(
             let name = name_of(rows, id);
             write!(
                 out,
-                ": {name} joins a code with a word of the datapath, and the check has no meaning for that.\n"
+                ": `{name}` joins a code (an icode, a register number, a status) with a word of 64 bits. The check can't decide that: compare codes with codes, and words with words.\n"
             )?;
         }
         CtlFault::AtomsOver64 => out.push_str(
-            ": the definitions compare more than 64 different pairs of words, too many for the check.\n",
+            ": the definitions compare more than 64 different pairs of words, and the check takes 64 at most.\n",
         )?,
         CtlFault::Memory => return Ok(Stop::Memory),
     }
@@ -73,7 +73,7 @@ fn explain(
 }
 
 /// Explains the verdict on an HCL file. The status is 0 only if the file has a design for the datapath, and the datapath
-/// under it does what the instructions mean.
+/// under it does what the instructions mean, for every program that the theorem covers.
 #[tactic(auto, using(crate::proofs::Accepted::accepted))]
 pub fn check<'a, F: Files>(
     alloc: Global,

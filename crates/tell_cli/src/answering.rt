@@ -12,10 +12,10 @@ use tell_words::{Call, is_limit, is_size};
 use wb_io::{Files, Sink, put_all, put_pieces};
 
 /// The message for a memory whose size is no multiple of 8.
-const ODD_SIZE: &str = "the bytes of memory have to be a multiple of 8\n";
+const ODD_SIZE: &str = "--mem takes a multiple of 8 from 64 to 1048576\n";
 
 /// The message for a limit that is out of range.
-const ODD_LIMIT: &str = "the limit has to be from 1 to 100000000\n";
+const ODD_LIMIT: &str = "--limit takes 1 to 100000000\n";
 
 /// The message for a file that is too long, behind its name.
 const TOO_LONG: &str =

@@ -29,7 +29,7 @@ fn found_text(
             if found.is_empty() {
                 write!(
                     text,
-                    "{word} is no obligation, no instruction, no signal and no code of a fault. y86-tell show lists all names.\n"
+                    "{word} is no obligation, no instruction, no signal that a file defines, and no code of a fault. y86-tell show lists these; docs/HCL.md has the other names.\n"
                 )?;
             }
             put_found(alloc, &mut text, found)?;

@@ -23,5 +23,5 @@ object_accepted (Ok image) faults told none = (image, refl)
 object_accepted (Err first) [] told none = absurd (told_nothing _ told)
 object_accepted (Err first) (fault ∷ faults) told none = absurd (cc (none))
 
-pub faultless : (name : List ℕ) (asked : FaultQuestion) (told : Option (Option (List ℕ))) (text : List ℕ) → HasBytes told text → IsFaultlessText (kind_of name) asked text → HasBytesWith told (IsFaultlessFile name asked)
+pub faultless : (name : List ℕ) (asked : FaultQuestion) (told : Option (Option (List ℕ))) (text : List ℕ) → HasBytes told text → IsFaultlessText (kind_of name asked.path) asked text → HasBytesWith told (IsFaultlessFile name asked)
 faultless name asked told text bytes accepted = (text, bytes, accepted)

@@ -1,5 +1,5 @@
 -- What status 0 of `fault` says of a file.
-use Rattle.std.specs.Prelude.{◌≡◌, ℕ, nat_eq, List, Ok, codes, if◌then◌else◌}
+use Rattle.std.specs.Prelude.{◌≡◌, ℕ, nat_eq, List, Option, Some, None, Ok, codes, if◌then◌else◌}
 use Rattle.std.specs.List.{ends_with}
 use Rattle.fault_report.specs.Told.{HasTextDesign, IsWanted}
 use Rattle.hcl_types.specs.declared.table.Datapath.{Datapath}
@@ -11,9 +11,10 @@ use Rattle.yas_asm.specs.Assembly.{assembled}
 use Rattle.yas_asm.specs.declared.listing.Line.{Line}
 use Rattle.yo_object.specs.ObjectText.{object_of}
 
--- what a file is, by the end of its name
-abbrev pub kind_of : List ℕ → Kind
-kind_of name = if ends_with nat_eq name (codes ".hcl") then Hcl else if ends_with nat_eq name (codes ".yo") then Object else Assembly
+-- what a file is: HCL if a datapath is named, and else by the end of its name
+abbrev pub kind_of : List ℕ → Option Datapath → Kind
+kind_of name (Some path) = Hcl
+kind_of name None = if ends_with nat_eq name (codes ".hcl") then Hcl else if ends_with nat_eq name (codes ".yo") then Object else Assembly
 
 -- an HCL text is a design for the datapath that is asked for, or for some datapath if none is; the assembler accepts a
 -- source; an object text is loaded
@@ -24,4 +25,4 @@ IsFaultlessText Object asked text = (image : List ℕ) × (object_of text asked.
 
 -- the text of a file with this name
 abbrev pub IsFaultlessFile : List ℕ → FaultQuestion → List ℕ → Type 0
-IsFaultlessFile name asked text = IsFaultlessText (kind_of name) asked text
+IsFaultlessFile name asked text = IsFaultlessText (kind_of name asked.path) asked text

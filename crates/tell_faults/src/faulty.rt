@@ -46,10 +46,13 @@ fn limit_of(kind: Kind) -> u64 {
     }
 }
 
-/// What a file is: `.hcl`, `.yo`, and assembly otherwise.
-fn kind_of(file: &str) -> Kind
-    ensures { result ≡ kinds.kind_of file.now }
+/// What a file is: HCL if a datapath is named; else by the end of its name, `.hcl`, `.yo`, and assembly otherwise.
+fn kind_of(file: &str, path: Option<Datapath>) -> Kind
+    ensures { result ≡ kinds.kind_of file.now path }
 {
+    if path.is_some() {
+        return Kind::Hcl;
+    }
     let name = file.as_bytes();
     if name.ends_with(b".hcl") {
         Kind::Hcl
@@ -132,7 +135,7 @@ pub fn report_faults<'a, F: Files>(
     requires { IsSize asked.size }
     ensures { IfOk result (λ said. said.status ≡ 0 → HasBytesWith (F.told files.old file.now) (IsFaultlessFile file.now asked)) }
 {
-    let kind = kind_of(file);
+    let kind = kind_of(file, asked.path);
     let text = match files.read(alloc, file, limit_of(kind)) {
         Ok(text) => text,
         Err(error) => return Err(unread(file, error)),

@@ -4,7 +4,7 @@ ghost use Rattle.tell_faults.specs.Told.{HasBytesWith};
 ghost use Rattle.tell_runs.specs.Covered.{IsCoveredText};
 ghost use Rattle.y86_base.specs.Image.{IsSize};
 
-use fault_report::is_source;
+use fault_report::has_bytes;
 use program_report::{put_watched, watch_object, watched_status};
 use std::alloc::Global;
 use tell_faults::{OBJECT_LIMIT, Stop, object_stop, text_stop, unread};
@@ -28,7 +28,7 @@ pub fn report_program<'a, F: Files, O: Sink>(
         Ok(text) => text,
         Err(error) => return Err(unread(file, error)),
     };
-    if is_source(text.as_slice()) {
+    if !has_bytes(text.as_slice()) {
         return Err(text_stop(alloc, file, text.as_slice(), asked.size));
     }
     let watched = match watch_object(

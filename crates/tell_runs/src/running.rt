@@ -7,7 +7,7 @@ ghost use Rattle.tell_faults.specs.Told.{HasBytesWith};
 ghost use Rattle.tell_runs.specs.Running.{EndsAlike, IsRun};
 ghost use Rattle.wb_io.specs.Files.{HasBytes};
 
-use fault_report::is_source;
+use fault_report::has_bytes;
 use hcl_types::{BoundDesign, Datapath, Row, Table};
 use json::Writer;
 use run_report::{
@@ -27,8 +27,8 @@ use yo_object::YoFault;
 enum NoRun {
     Design(NoDesign),
     Object(YoFault),
-    /// A source that wasn't assembled: as an object text it would be an empty program.
-    Source,
+    /// No line puts a byte: the text is a source that wasn't assembled, or what is left of one that was refused.
+    Empty,
 }
 
 /// A run, and the names of its signals.
@@ -49,8 +49,8 @@ fn run_texts(alloc: Global, source: &[u8], object: &[u8], asked: &RunQuestion) -
         Ok(bound) => bound,
         Err(fault) => return Err(NoRun::Design(fault)),
     };
-    if is_source(object) {
-        return Err(NoRun::Source);
+    if !has_bytes(object) {
+        return Err(NoRun::Empty);
     }
     let BoundDesign { table, ordered } = bound;
     let request = OutcomeRequest {
@@ -112,7 +112,7 @@ fn report_run<'a>(
         Ok(run) => Ok(said_of(alloc, asked, &run)?),
         Err(NoRun::Design(fault)) => { Err(fault_stop(alloc, hcl, source, Datapath::Pipe, &fault)) }
         Err(NoRun::Object(fault)) => Err(object_stop(alloc, obj, object, asked.size, &fault)),
-        Err(NoRun::Source) => Err(text_stop(alloc, obj, object, asked.size)),
+        Err(NoRun::Empty) => Err(text_stop(alloc, obj, object, asked.size)),
     }
 }
 

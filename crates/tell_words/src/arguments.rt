@@ -24,7 +24,7 @@ pub enum Call<'a> {
         obj: &'a str,
         asked: RunQuestion,
     },
-    /// Report every fault of a file.
+    /// Report the faults of a file.
     Fault {
         file: &'a str,
         asked: FaultQuestion,
@@ -94,7 +94,7 @@ fn obj<'a>(alloc: Global) -> Arg<'a> {
 
 /// The option `--mem`.
 fn mem<'a>(alloc: Global) -> Arg<'a> {
-    let help = "The bytes of memory, a multiple of 8";
+    let help = "The bytes of memory: a multiple of 8 from 64 to 1048576";
     number(alloc, "mem", 64, 1_048_576, "8192", help)
 }
 
@@ -105,7 +105,7 @@ fn limit<'a>(alloc: Global, help: &'a str) -> Arg<'a> {
 
 /// The command `check`.
 fn check_command<'a>(alloc: Global) -> Result<Command<'a>, AllocError> {
-    let path = Arg::new(alloc, "path")
+    let path = Arg::new(alloc, "processor")
         .required(true)
         .action(ArgAction::Set)
         .value_parser(PATHS.as_slice())
@@ -127,7 +127,7 @@ fn program_command<'a>(alloc: Global) -> Result<Command<'a>, AllocError> {
         .arg(obj(alloc))?
         .arg(full(alloc))?
         .arg(mem(alloc))?
-        .arg(limit(alloc, "The most instructions"))
+        .arg(limit(alloc, "The most instructions: 1 to 100000000"))
 }
 
 /// The command `run`.
@@ -143,7 +143,7 @@ fn run_command<'a>(alloc: Global) -> Result<Command<'a>, AllocError> {
         .arg(obj(alloc))?
         .arg(full(alloc))?
         .arg(mem(alloc))?
-        .arg(limit(alloc, "The most cycles"))?
+        .arg(limit(alloc, "The most cycles: 1 to 100000000"))?
         .arg(json(alloc))?
         .arg(unchecked)
 }
@@ -155,12 +155,12 @@ fn fault_command<'a>(alloc: Global) -> Result<Command<'a>, AllocError> {
         "file",
         "The file: HCL (.hcl), object text (.yo), or assembly",
     );
-    let path = Arg::new(alloc, "path")
+    let path = Arg::new(alloc, "processor")
         .action(ArgAction::Set)
         .value_parser(PATHS.as_slice())
         .help("The processor that an HCL file is for");
     Command::new(alloc, "fault")
-        .about("Report every fault of a file")
+        .about("Report the faults of a file, and what to do about each")
         .arg(any)?
         .arg(path)?
         .arg(full(alloc))?
@@ -233,7 +233,7 @@ fn check_call<'a>(own: &ArgMatches<'a>) -> Call<'a> {
     Call::Check {
         hcl: own.get_str("hcl").unwrap_or(""),
         asked: CheckQuestion {
-            path: path_of(own.get_str("path").unwrap_or("pipe")),
+            path: path_of(own.get_str("processor").unwrap_or("pipe")),
             variant: variant_of(own),
             json: own.get_flag("json"),
         },
@@ -272,7 +272,7 @@ fn fault_call<'a>(own: &ArgMatches<'a>) -> Call<'a> {
     Call::Fault {
         file: own.get_str("file").unwrap_or(""),
         asked: FaultQuestion {
-            path: asked_path(own.get_str("path")),
+            path: asked_path(own.get_str("processor")),
             variant: variant_of(own),
             size: memory_of(own),
             json: own.get_flag("json"),

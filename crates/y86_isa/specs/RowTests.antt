@@ -151,7 +151,7 @@ pub record SourcesAgree (r : Row) : Type 0 where
   pub no_source : select_a_is_val_p r ≡ true → is_dash r.src_a ≡ true
   pub stored : stores_val_a r.memory ≡ true → operand_is_val_a r.alu_a ≡ false
 
--- a conditional jump computes nothing and accesses no memory; the PC is loaded only if a word is loaded; an access sets
+-- a jump computes nothing and accesses no memory; the PC is loaded only if a word is loaded; an access sets
 -- no flags; valM has a destination only if a word is loaded
 pub record AccessesAgree (r : Row) : Type 0 where
   pub branch_operand : next_is_branch r.next ≡ true → has_operand_a r.alu_a ≡ false

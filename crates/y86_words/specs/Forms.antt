@@ -102,11 +102,13 @@ pub data Command : Type 0 where
   -- run an object file on PIPE under an HCL file: as for ssim, whether a trace is asked for, and whether the HCL file
   -- is checked first
   psim : List ℕ → List ℕ → ℕ → ℕ → Bool → Bool → Variant → Command
-  -- decide whether SEQ under an HCL file does what its instructions mean: the name of the file, the instruction set
+  -- decide whether an HCL file meets the 16 obligations of SEQ; if it does, SEQ under it does what the instructions
+  -- mean, for every program: the name of the file, the instruction set
   check_seq : List ℕ → Variant → Command
   -- the same for SEQ+
   check_plus : List ℕ → Variant → Command
-  -- the same for PIPE, but only for the programs that don't store over one of the next three instructions
+  -- the same for the 27 obligations of PIPE, and for every program that doesn't store over one of the next three
+  -- instructions
   check_pipe : List ℕ → Variant → Command
   -- the same, with a certificate instead of the line of a `yes`
   certify_pipe : List ℕ → Variant → Command

@@ -59,18 +59,19 @@ pub enum Cmd<'a> {
         checked: bool,
         variant: Variant,
     },
-    /// Decides whether SEQ under an HCL file does what its instructions mean, for every program.
+    /// Decides whether an HCL file meets the 16 obligations of SEQ. If it does, SEQ under it does what the instructions
+    /// mean, for every program.
     CheckSeq {
         hcl: &'a str,
         variant: Variant,
     },
-    /// Decides whether SEQ+ under an HCL file does what its instructions mean, for every program.
+    /// Decides the same for SEQ+.
     CheckPlus {
         hcl: &'a str,
         variant: Variant,
     },
-    /// Decides whether PIPE under an HCL file does what its instructions mean, for every program that doesn't store
-    /// over one of the next three instructions.
+    /// Decides whether an HCL file meets the 27 obligations of PIPE. If it does, PIPE under it does what the instructions
+    /// mean, for every program that doesn't store over one of the next three instructions.
     CheckPipe {
         hcl: &'a str,
         variant: Variant,
