@@ -310,6 +310,48 @@ def test_a_folder_of_a_version_control_is_no_hand_in(folder):
     same([each.name for each in hand_ins(folder, ["pipe.hcl"])], ["ann"])
 
 
+def test_two_files_of_one_name(folder):
+    """The first counts, which is said."""
+    put(folder, {name: "" for name in ("ann_pipe.hcl", "ann-pipe.hcl", "ann.hcl", "bob.hcl")})
+    notes = []
+    same([each.files for each in hand_ins(folder, ["pipe.hcl"], note=notes.append)], [{"pipe.hcl": f"{folder}/ann-pipe.hcl"}, {"pipe.hcl": f"{folder}/bob.hcl"}])
+    same(notes, ["ann.hcl: passed over, for ann-pipe.hcl is graded", "ann_pipe.hcl: passed over, for ann-pipe.hcl is graded"])
+
+
+# Where files of the hand-in `ann` are, those that are graded, and what is said.
+BELOW = [
+    ("one folder", ["a/seq.hcl", "b/x.ys"], {"seq.hcl": "a/seq.hcl", "x.ys": "b/x.ys"}, []),
+    ("two folders", ["b/seq.hcl", "a/seq.hcl"], {"seq.hcl": "a/seq.hcl"}, ["ann: seq.hcl is in a/ and in b/; a/seq.hcl is graded"]),
+    ("three folders", ["c/seq.hcl", "a/x.ys", "b/seq.hcl", "d/seq.hcl"], {"seq.hcl": "b/seq.hcl", "x.ys": "a/x.ys"},
+        ["ann: seq.hcl is in b/, in c/ and in d/; b/seq.hcl is graded"]),
+    ("both files", ["a/seq.hcl", "b/seq.hcl", "b/x.ys", "c/x.ys"], {"seq.hcl": "a/seq.hcl", "x.ys": "b/x.ys"},
+        ["ann: seq.hcl is in a/ and in b/; a/seq.hcl is graded", "ann: x.ys is in b/ and in c/; b/x.ys is graded"]),
+    ("the folder itself", ["seq.hcl", "a/seq.hcl", "b/seq.hcl"], {"seq.hcl": "seq.hcl"}, []),
+    ("two folders below", ["a/a/seq.hcl", "b/seq.hcl"], {"seq.hcl": "b/seq.hcl"}, []),
+]
+
+
+@cases(BELOW)
+def test_files_in_folders_below(row, folder):
+    _, places, graded, told = row
+    for place in places:
+        os.makedirs(os.path.dirname(f"{folder}/in/ann/{place}"), exist_ok=True)
+    put(folder, {f"in/ann/{place}": "" for place in places})
+    for top, is_single in ((f"{folder}/in", False), (f"{folder}/in/ann", True)):
+        notes = []
+        found = [each.files for each in hand_ins(top, ["seq.hcl", "x.ys"], is_single, notes.append)]
+        same((found, notes), ([{file: f"{folder}/in/ann/{place}" for file, place in graded.items()}], told))
+
+
+def test_two_folders_below_are_told_on_standard_error(lab, folder):
+    """The grades are on standard output, as they would be without the second folder."""
+    for name in ("new", "old"):
+        os.makedirs(f"{folder}/in/ann/{name}")
+    rubric = 'name = "n"\n[[item]]\nname = "x"\npoints = 5\nfile = "a.ys"\nreference = "right.ys"\nregisters = ["%rax"]\n'
+    files = {"in/ann/new/a.ys": STORE, "in/ann/old/a.ys": "halt\n", "right.ys": STORE, "r.toml": rubric}
+    same(lab("grade", "in", "--rubric", "r.toml", files=files), (0, "name,points,of,x\nann,5,5,5\n", "ann: a.ys is in new/ and in old/; new/a.ys is graded\n"))
+
+
 def test_links_out_of_the_folder(folder):
     """None is followed, of a file or of a folder; one inside is."""
     for name in ("in/ann", "in/bob", "in/cy", "out"):
