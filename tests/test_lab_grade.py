@@ -180,16 +180,44 @@ def item(**entries):
     return {"name": "x", "points": 1, "file": "a.hcl", "obligations": ["O1"], **entries}
 
 
+def program(**entries):
+    return {"name": "x", "points": 1, "file": "a.ys", "reference": "r.ys", **entries}
+
+
+LABELS = ("`obligations` is to be labels such as O10, or of these groups: "
+    "fetch, decode and forwarding, execute, memory, exceptions, next address, write-back, hazards")
 WRONG = [
     ({"item": [item()]}, "r: `name` is to be a text"),
     ({"name": "n"}, "r: the rubric has no [[item]]"),
     ({"name": "n", "full": 1, "item": [item()]}, "r: `full` is to be true or false"),
-    ({"name": "n", "ful": True, "item": [item()]}, "r: there is no `ful`"),
+    ({"name": "n", "ful": True, "item": [item()]}, "r: there is no entry `ful`"),
     ({"name": "n", "item": [item(points=0)]}, "r: item 1: `points` is to be above 0"),
     ({"name": "n", "item": [item(points="1")]}, "r: item 1: `points` is to be a number"),
     ({"name": "n", "item": [item(file="../a.hcl")]}, "r: item 1: `file` is to be the name of a file, without a folder"),
     ({"name": "n", "item": [item(file="..")]}, "r: item 1: `file` is to be the name of a file, without a folder"),
-    ({"name": "n", "item": [item(on="b.hcl")]}, "r: item 1: there is no `on`"),
+    ({"name": "n", "item": [item(on="b.hcl")]}, "r: item 1: an item with `obligations` has no `on`"),
+    ({"nmae": "n", "item": [item(points=0)]}, "r: there is no entry `nmae`"),
+    ({"name": "n", "item": [{"name": "y", "points": 0, "file": "a.hcl", "obligatoins": ["S1"]}]}, "r: item 1: there is no entry `obligatoins`"),
+    ({"name": "n", "item": [item(), {"name": "y", "points": 1, "file": "a.ys", "refrence": "r.ys"}]}, "r: item 2: there is no entry `refrence`"),
+    ({"name": "n", "item": [item(item=[])]}, "r: item 1: there is no entry `item`"),
+    ({"name": "n", "item": [{"name": "y", "points": 1, "file": "a.hcl"}]}, "r: item 1: it needs `obligations`, `reference`, `on` or `bytes`"),
+    ({"name": "n", "item": [{"name": "y", "points": 1, "file": "a.ys", "registers": ["%rax"]}]}, "r: item 1: it needs `obligations`, `reference`, `on` or `bytes`"),
+    ({"name": "n", "item": [{"name": "y", "points": 1, "file": "a.ys", "on": "a.hcl", "words": {"dest": 3}}]}, "r: item 1: an item with `on` has no `words`"),
+    ({"name": "n", "item": [item(obligations=["S28"])]}, "r: item 1: there is no obligation `S28`"),
+    ({"name": "n", "item": [item(obligations=["S16", "S17"])]}, "r: item 1: there is no obligation `S17`"),
+    ({"name": "n", "item": [item(obligations=["O27", "O28"])]}, "r: item 1: there is no obligation `O28`"),
+    ({"name": "n", "item": [item(obligations=["S0", "S1", "O1"])]}, "r: item 1: there is no obligation `S0`"),
+    ({"name": "n", "item": [item(obligations=["fetch", "O01"])]}, "r: item 1: there is no obligation `O01`"),
+    ({"name": "n", "item": [item(obligations=["S1", "S2", "O3"])]}, "r: item 1: `obligations`: no processor has `S1` and `O3`"),
+    ({"name": "n", "item": [item(obligations=["hazards", "S1"])]}, "r: item 1: `obligations`: no processor has `S1` and `hazards`"),
+    ({"name": "n", "item": [item(obligations=["next address", "O5"])]}, "r: item 1: `obligations`: no processor has `O5` and `next address`"),
+    ({"name": "n", "item": [item(obligations=["hazard"])]}, f"r: item 1: {LABELS}"),
+    ({"name": "n", "item": [item(obligations=[])]}, f"r: item 1: {LABELS}"),
+    ({"name": "n", "item": [program(registers=["%rax", "rbx"])]}, "r: item 1: `registers`: there is no `rbx`; write `%rbx`"),
+    ({"name": "n", "item": [program(registers=["%rxa"])]}, "r: item 1: `registers`: there is no `%rxa`"),
+    ({"name": "n", "item": [program(registers=["%r14", "%r15"])]}, "r: item 1: `registers`: there is no `%r15`"),
+    ({"name": "n", "item": [program(words={"dest": True})]}, "r: item 1: `words` is to be a table of labels with a number of words each"),
+    ({"name": "n", "item": [program(reference="")]}, "r: item 1: `reference` is to be a path from the rubric's folder"),
     ({"name": "n", "item": [item(), {"name": "y", "points": 1, "file": "a.ys", "on": "a.hcl", "cycles": [9, 9]}]},
         "r: item 2: `cycles` is to be two numbers, the better one first"),
     ({"name": "n", "item": [{"name": "y", "points": 1, "file": "a.ys", "reference": "r.ys", "words": {"dest": "3"}}]},
@@ -202,6 +230,49 @@ def test_wrong_rubrics(table, told, groups):
     with pytest.raises(LabError) as fault:
         rubric_of("r", table, groups)
     same((str(fault.value), fault.value.status), (told, 2))
+
+
+def test_a_label_picks_the_processor(groups):
+    """A group beside it has its obligations of that processor alone; S16 is one of SEQ, and of SEQ+."""
+    rubric = rubric_of("r", {"name": "n", "item": [item(obligations=["fetch", "S9", "S16"]), item(obligations=["O27", "fetch"]), item(obligations=["fetch"])]}, groups)
+    same([it.task.labels for it in rubric.items], [("S1", "S2", "S3", "S9", "S16"), ("O27", "O1", "O2", "O3", "O4", "O5"), ("O1", "O2", "O3", "O4", "O5", "S1", "S2", "S3")])
+
+
+def test_all_registers(groups):
+    names = ("%rax", "%rcx", "%rdx", "%rbx", "%rsp", "%rbp", "%rsi", "%rdi", "%r8", "%r9", "%r10", "%r11", "%r12", "%r13", "%r14")
+    same(rubric_of("r", {"name": "n", "item": [program(registers=[*names])]}, groups).items[0].task.registers, names)
+
+
+# A rubric's `words`, and what is said of a hand-in. The reference is STORE, and each hand-in another program.
+STORE = "irmovq $42, %rax\nirmovq dest, %rbx\nrmmovq %rax, (%rbx)\nhalt\n.align 8\ndest: .quad 0\n"
+WORDS = [
+    ("as the reference", "{ dest = 1 }", STORE, (0, 5.0, "it ends as the reference does", "")),
+    ("a space before the colon", "{ dest = 1 }", STORE.replace("dest:", "dest :"), (0, 5.0, "it ends as the reference does", "")),
+    ("another word", "{ dest = 1 }", STORE.replace("42", "43"), (0, 0.0, "the words at dest: 0x2b in place of 0x2a", "")),
+    ("the hand-in lacks the label", "{ dest = 1 }", STORE.replace("dest", "dst"), (0, 0.0, "the words at dest: no label dest in place of 0x2a", "")),
+    ("the reference lacks the label", "{ dst = 1 }", STORE, (2, None, None, "the reference right.ys: it defines no label `dst`\n")),
+    ("both have the label in a comment alone", "{ dst = 1 }", STORE.replace("halt", "halt # | dst: 1"), (2, None, None, "the reference right.ys: it defines no label `dst`\n")),
+    ("the second label", "{ dest = 1, dst = 1 }", STORE, (2, None, None, "the reference right.ys: it defines no label `dst`\n")),
+]
+
+
+@cases(WORDS)
+def test_labels_of_words(row, lab, folder):
+    _, words_of_rubric, hand_in, wanted = row
+    os.makedirs(f"{folder}/in/ann")
+    right = hand_in if "# | dst" in hand_in else STORE
+    rubric = f'name = "n"\n[[item]]\nname = "x"\npoints = 5\nfile = "a.ys"\nreference = "right.ys"\nwords = {words_of_rubric}\n'
+    status, out, err = lab("grade", "in", "--rubric", "r.toml", "--format", "json", files={"in/ann/a.ys": hand_in, "right.ys": right, "r.toml": rubric})
+    score = json.loads(out)["grades"][0]["items"][0] if out else {"points": None, "reason": None}
+    same((status, score["points"], score["reason"], err), wanted)
+
+
+def test_two_items_of_one_reference(lab, folder):
+    """Each item's labels are looked up."""
+    os.makedirs(f"{folder}/in/ann")
+    rubric = 'name = "n"\n' + "".join(f'[[item]]\nname = "x"\npoints = 5\nfile = "a.ys"\nreference = "right.ys"\nwords = {{ {label} = 1 }}\n' for label in ("dest", "dst"))
+    same(lab("grade", "in", "--rubric", "r.toml", files={"in/ann/a.ys": STORE, "right.ys": STORE, "r.toml": rubric}),
+        (2, "", "the reference right.ys: it defines no label `dst`\n"))
 
 
 def test_wrong_arguments(lab, folder):
@@ -237,6 +308,48 @@ def test_a_folder_of_a_version_control_is_no_hand_in(folder):
     put(folder, {"ann.hcl": "", ".DS_Store": ""})
     os.mkdir(f"{folder}/.git")
     same([each.name for each in hand_ins(folder, ["pipe.hcl"])], ["ann"])
+
+
+def test_two_files_of_one_name(folder):
+    """The first counts, which is said."""
+    put(folder, {name: "" for name in ("ann_pipe.hcl", "ann-pipe.hcl", "ann.hcl", "bob.hcl")})
+    notes = []
+    same([each.files for each in hand_ins(folder, ["pipe.hcl"], note=notes.append)], [{"pipe.hcl": f"{folder}/ann-pipe.hcl"}, {"pipe.hcl": f"{folder}/bob.hcl"}])
+    same(notes, ["ann.hcl: passed over, for ann-pipe.hcl is graded", "ann_pipe.hcl: passed over, for ann-pipe.hcl is graded"])
+
+
+# Where files of the hand-in `ann` are, those that are graded, and what is said.
+BELOW = [
+    ("one folder", ["a/seq.hcl", "b/x.ys"], {"seq.hcl": "a/seq.hcl", "x.ys": "b/x.ys"}, []),
+    ("two folders", ["b/seq.hcl", "a/seq.hcl"], {"seq.hcl": "a/seq.hcl"}, ["ann: seq.hcl is in a/ and in b/; a/seq.hcl is graded"]),
+    ("three folders", ["c/seq.hcl", "a/x.ys", "b/seq.hcl", "d/seq.hcl"], {"seq.hcl": "b/seq.hcl", "x.ys": "a/x.ys"},
+        ["ann: seq.hcl is in b/, in c/ and in d/; b/seq.hcl is graded"]),
+    ("both files", ["a/seq.hcl", "b/seq.hcl", "b/x.ys", "c/x.ys"], {"seq.hcl": "a/seq.hcl", "x.ys": "b/x.ys"},
+        ["ann: seq.hcl is in a/ and in b/; a/seq.hcl is graded", "ann: x.ys is in b/ and in c/; b/x.ys is graded"]),
+    ("the folder itself", ["seq.hcl", "a/seq.hcl", "b/seq.hcl"], {"seq.hcl": "seq.hcl"}, []),
+    ("two folders below", ["a/a/seq.hcl", "b/seq.hcl"], {"seq.hcl": "b/seq.hcl"}, []),
+]
+
+
+@cases(BELOW)
+def test_files_in_folders_below(row, folder):
+    _, places, graded, told = row
+    for place in places:
+        os.makedirs(os.path.dirname(f"{folder}/in/ann/{place}"), exist_ok=True)
+    put(folder, {f"in/ann/{place}": "" for place in places})
+    for top, is_single in ((f"{folder}/in", False), (f"{folder}/in/ann", True)):
+        notes = []
+        found = [each.files for each in hand_ins(top, ["seq.hcl", "x.ys"], is_single, notes.append)]
+        same((found, notes), ([{file: f"{folder}/in/ann/{place}" for file, place in graded.items()}], told))
+
+
+def test_two_folders_below_are_told_on_standard_error(lab, folder):
+    """The grades are on standard output, as they would be without the second folder."""
+    for name in ("new", "old"):
+        os.makedirs(f"{folder}/in/ann/{name}")
+    rubric = 'name = "n"\n[[item]]\nname = "x"\npoints = 5\nfile = "a.ys"\nreference = "right.ys"\nregisters = ["%rax"]\n'
+    files = {"in/ann/new/a.ys": STORE, "in/ann/old/a.ys": "halt\n", "right.ys": STORE, "r.toml": rubric}
+    same(lab("grade", "in", "--rubric", "r.toml", files=files), (0, "name,points,of,x\nann,5,5,5\n", "ann: a.ys is in new/ and in old/; new/a.ys is graded\n"))
 
 
 def test_links_out_of_the_folder(folder):

@@ -108,8 +108,12 @@ def references(programs: Programs, rubric: Rubric, limits: Limits) -> Right:
             name = getattr(item.task, "reference", "")
             path = os.path.join(rubric.folder, name)
             try:
-                if name and isinstance(item.task, Program) and name not in right.reports:
-                    right.reports[name] = runner.report(path)
+                if isinstance(item.task, Program):
+                    if name not in right.reports:
+                        right.reports[name] = runner.report(path)
+                    for label, _ in item.task.words:
+                        if address_of(right.reports[name].listing, label) is None:
+                            raise NoPoints(f"it defines no label `{label}`")
                 elif name and isinstance(item.task, Obligations) and name not in right.designs:
                     right.designs[name] = design_of_reference(path)
             except (NoPoints, OSError) as why:
@@ -269,12 +273,17 @@ def bytes_of(listing: str) -> dict[int, int]:
     return held
 
 
+def address_of(listing: str, label: str) -> Optional[int]:
+    """Where a label is; None if there is none. (A comment may have all of a label's line but the first `|`.)"""
+    place = re.search(rf"^0x([0-9a-f]+):[^|\n]*\|\s*{re.escape(label)}\s*:", listing, re.M)
+    return int(place[1], 16) if place else None
+
+
 def words(report: Report, label: str, count: int) -> str:
-    """The words after a label at the end of a run. (A comment may have all of a label's line but the first `|`.)"""
-    place = re.search(rf"^0x([0-9a-f]+):[^|\n]*\|\s*{re.escape(label)}:", report.listing, re.M)
-    if not place:
+    """The words after a label at the end of a run."""
+    start, held = address_of(report.listing, label), bytes_of(report.listing)
+    if start is None:
         return f"no label {label}"
-    start, held = int(place[1], 16), bytes_of(report.listing)
     changed = {
         int(address, 16): int(word, 16)
         for address, word in re.findall(r"^0x(\w+):\t\S+\t0x(\w+)$", report.text, re.M)

@@ -30,30 +30,35 @@ def warn(text: str) -> None:
 def hand_ins(
     folder: str, wanted: Iterable[str], is_single: bool = False, note: Callable[[str], None] = warn
 ) -> list[HandIn]:
-    """The hand-ins of a folder; of a single hand-in the folder itself. `note` gets what belongs to no hand-in."""
+    """The hand-ins of a folder; of a single hand-in the folder itself. `note` gets what isn't graded."""
     names = list(wanted)
     top = os.path.realpath(folder)
     if is_single:
-        return [in_folder(os.path.basename(top), top, top, names)]
+        return [in_folder(os.path.basename(top), top, top, names, note)]
     entries = sorted((it for it in os.scandir(folder) if it.name[0] != "."), key=lambda entry: entry.name)
     folders = [entry for entry in entries if entry.is_dir()]
     if folders:
         for entry in entries:
             if entry not in folders:
                 note(f"{entry.name}: passed over, for the hand-ins are the folders beside it")
-        return [in_folder(entry.name, entry.path, top, names) for entry in folders]
+        return [in_folder(entry.name, entry.path, top, names, note) for entry in folders]
     return flat([entry.path for entry in entries], top, names, note)
 
 
-def in_folder(name: str, folder: str, top: str, wanted: list[str]) -> HandIn:
-    """The hand-in of a folder: each file there, or in one folder below."""
+def in_folder(name: str, folder: str, top: str, wanted: list[str], note: Callable[[str], None]) -> HandIn:
+    """The hand-in of a folder: each file there, or in the first folder below that has it."""
     files, missing = {}, {}
+    below: list[str] = []
+    if is_inside(folder, top):
+        below = sorted(entry.name for entry in os.scandir(folder) if entry.is_dir(follow_symlinks=False))
     for file in wanted:
-        places = [os.path.join(folder, file)]
-        if is_inside(folder, top):
-            below = sorted(entry.path for entry in os.scandir(folder) if entry.is_dir(follow_symlinks=False))
-            places += [os.path.join(place, file) for place in below]
-        path = next((place for place in places if os.path.lexists(place)), places[0])
+        path = os.path.join(folder, file)
+        if not os.path.lexists(path):
+            places = [place for place in below if os.path.lexists(os.path.join(folder, place, file))]
+            if len(places) > 1:
+                others = ", ".join(f"in {place}/" for place in places[:-1])
+                note(f"{name}: {file} is {others} and in {places[-1]}/; {places[0]}/{file} is graded")
+            path = os.path.join(folder, places[0], file) if places else path
         fault = fault_of(path, top)
         if fault:
             missing[file] = fault
@@ -76,7 +81,9 @@ def flat(paths: list[str], top: str, wanted: list[str], note: Callable[[str], No
                 continue
             hand_in = found.setdefault(name, HandIn(name, {}, {each: "it is missing" for each in wanted}))
             fault = fault_of(path, top)
-            if fault:
+            if file in hand_in.files:
+                note(f"{base}: passed over, for {os.path.basename(hand_in.files[file])} is graded")
+            elif fault:
                 hand_in.missing[file] = fault
             else:
                 hand_in.files[file] = path

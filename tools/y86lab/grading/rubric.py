@@ -5,8 +5,9 @@ import os
 import re
 import sys
 from dataclasses import dataclass, field
-from typing import Any, BinaryIO, Mapping, Optional, Union
+from typing import Any, BinaryIO, Container, Mapping, Optional, Union
 
+from ..counterexample import REGISTERS
 from ..errors import USAGE, LabError
 
 if sys.version_info >= (3, 11):
@@ -23,6 +24,10 @@ else:
 
 # The labels of the obligations by what they are about, as y86-tell shows them.
 Groups = Mapping[str, tuple[str, ...]]
+# The entries of a rubric and of an item. Of an item's, the first of KINDS that it has says what gives points.
+RUBRIC_ENTRIES = ("name", "full", "item")
+KINDS = ("obligations", "reference", "cycles", "bytes", "on")
+ITEM_ENTRIES = ("name", "points", "file", *KINDS, "registers", "words")
 
 
 @dataclass(frozen=True)
@@ -115,10 +120,8 @@ def read_rubric(path: str, groups: Groups) -> Rubric:
 
 
 def rubric_of(path: str, table: dict[str, Any], groups: Groups) -> Rubric:
-    reader = TableReader(path, table)
-    items = table.pop("item", None)
-    name, full = reader.text("name"), reader.truth("full")
-    reader.end()
+    reader = TableReader(path, table, RUBRIC_ENTRIES)
+    name, full, items = reader.text("name"), reader.truth("full"), table.get("item")
     if not isinstance(items, list) or not items:
         raise LabError(f"{path}: the rubric has no [[item]]", USAGE)
     read = tuple(item_of(f"{path}: item {number}", entry, groups) for number, entry in enumerate(items, 1))
@@ -128,48 +131,74 @@ def rubric_of(path: str, table: dict[str, Any], groups: Groups) -> Rubric:
 def item_of(place: str, table: object, groups: Groups) -> Item:
     if not isinstance(table, dict):
         raise LabError(f"{place}: an item is a table", USAGE)
-    reader = TableReader(place, table)
+    reader = TableReader(place, table, ITEM_ENTRIES)
     name, points = reader.text("name"), reader.number("points")
     if points <= 0:
         raise reader.fault("points", "above 0")
-    if "obligations" in table:
-        right = reader.text("reference") if "reference" in table else ""
+    kind = next((key for key in KINDS if key in table), "")
+    if kind == "obligations":
+        right = reader.reference() if "reference" in table else ""
         task: Task = Obligations(reader.file("file"), labels_of(reader, groups), right)
-    elif "reference" in table:
+    elif kind == "reference":
         words = tuple((label, count) for label, count in reader.counts("words").items())
-        registers = tuple(reader.texts("registers"))
-        task = Program(reader.file("file"), reader.text("reference"), registers, words)
-    elif "cycles" in table:
+        task = Program(reader.file("file"), reader.reference(), registers_of(reader), words)
+    elif kind == "cycles":
         best, worst = reader.range("cycles")
         task = Cycles(reader.file("file"), reader.file("on"), best, worst)
-    elif "bytes" in table:
+    elif kind == "bytes":
         least, most = reader.range("bytes")
         task = Size(reader.file("file"), int(least), int(most))
-    else:
+    elif kind == "on":
         task = Run(reader.file("file"), reader.file("on"))
-    reader.end()
+    else:
+        raise reader.error("it needs `obligations`, `reference`, `on` or `bytes`")
+    reader.end(kind)
     return Item(name, points, task)
 
 
 def labels_of(reader: TableReader, groups: Groups) -> tuple[str, ...]:
-    """Obligations by their labels, or by the names of groups."""
+    """Obligations by their labels, or by the names of groups: of a label's processor, where one is named."""
+    texts = reader.texts("obligations")
+    named = [text for text in texts if text not in groups]
+    known = {label for labels in groups.values() for label in labels}
+    if not texts or not all(re.fullmatch(r"[OS]\d+", text) for text in named):
+        raise reader.fault("obligations", f"labels such as O10, or of these groups: {', '.join(groups)}")
+    for text in named:
+        if text not in known:
+            raise reader.error(f"there is no obligation `{text}`")
+    letter = named[0][0] if named else ""
     labels: list[str] = []
-    for text in reader.texts("obligations"):
-        if text not in groups and not re.fullmatch(r"[OS]\d{1,2}", text):
-            raise reader.fault("obligations", f"labels such as O10, or of these groups: {', '.join(groups)}")
-        labels += groups.get(text, (text,))
+    for text in texts:
+        own = [label for label in groups.get(text, (text,)) if label.startswith(letter)]
+        if not own:
+            raise reader.error(f"`obligations`: no processor has `{named[0]}` and `{text}`")
+        labels += own
     return tuple(dict.fromkeys(labels))
 
 
-class TableReader:
-    """The entries of a table, each with its type; what is left over at the end is a fault."""
+def registers_of(reader: TableReader) -> tuple[str, ...]:
+    names = reader.texts("registers")
+    for name in names:
+        if name not in REGISTERS:
+            right = f"; write `%{name}`" if f"%{name}" in REGISTERS else ""
+            raise reader.error(f"`registers`: there is no `{name}`{right}")
+    return tuple(names)
 
-    def __init__(self, place: str, table: dict[str, Any]) -> None:
+
+class TableReader:
+    """The entries of a table, each with its type. One that isn't known is a fault, before all others."""
+
+    def __init__(self, place: str, table: dict[str, Any], entries: Container[str]) -> None:
         self.place, self.table = place, dict(table)
-        self.table.pop("item", None)
+        for key in table:
+            if key not in entries:
+                raise self.error(f"there is no entry `{key}`")
+
+    def error(self, text: str) -> LabError:
+        return LabError(f"{self.place}: {text}", USAGE)
 
     def fault(self, key: str, wanted: str) -> LabError:
-        return LabError(f"{self.place}: `{key}` is to be {wanted}", USAGE)
+        return self.error(f"`{key}` is to be {wanted}")
 
     def take(self, key: str, kind: type, wanted: str, absent: Optional[object] = None) -> Any:
         value = self.table.pop(key, absent)
@@ -186,6 +215,12 @@ class TableReader:
         if name != os.path.basename(name) or not name.strip("."):
             raise self.fault(key, "the name of a file, without a folder")
         return name
+
+    def reference(self) -> str:
+        path = self.text("reference")
+        if not path:
+            raise self.fault("reference", "a path from the rubric's folder")
+        return path
 
     def truth(self, key: str) -> bool:
         return bool(self.take(key, bool, "true or false", False))
@@ -204,7 +239,8 @@ class TableReader:
 
     def counts(self, key: str) -> dict[str, int]:
         values = self.take(key, dict, "a table of labels with a number of words each", {})
-        if not all(isinstance(count, int) and 0 < count <= 10000 for count in values.values()):
+        numbers = [count for count in values.values() if isinstance(count, int) and not isinstance(count, bool)]
+        if len(numbers) < len(values) or not all(0 < count <= 10000 for count in numbers):
             raise self.fault(key, "a table of labels with a number of words each")
         return dict(values)
 
@@ -216,6 +252,7 @@ class TableReader:
             raise self.fault(key, "two numbers, the better one first")
         return float(numbers[0]), float(numbers[1])
 
-    def end(self) -> None:
+    def end(self, kind: str) -> None:
+        """What is left over doesn't go with the entry that says what gives points."""
         if self.table:
-            raise LabError(f"{self.place}: there is no `{next(iter(self.table))}`", USAGE)
+            raise self.error(f"an item with `{kind}` has no `{next(iter(self.table))}`")
