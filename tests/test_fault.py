@@ -6,8 +6,10 @@ mistake meets; lines and columns are counted by hand.
 import json
 import re
 
+import pytest
+
 from helpers.cases import cases, same
-from helpers.designs import changed, design, without
+from helpers.designs import changed, design, example, without
 
 # A text of HCL, and what is said of it.
 HCL = [
@@ -75,7 +77,7 @@ def test_reading(row, y86_tell):
 
 # A design for PIPE with a change, and what is said of it: all faults, in order.
 BINDING = [
-    ("a misspelt signal", lambda std: std.replace("e_dstE = [", "e_destE = ["), ["`e_destE` is no name of PIPE", "`e_dstE` has no definition"]),
+    ("a misspelt signal", lambda std: std.replace("e_dstE = [", "e_destE = ["), ["`e_destE` is neither a signal nor a constant of PIPE", "`e_dstE` has no definition"]),
     ("a definition that is missing", lambda std: without(std, ["mem_write"]), ["`mem_write` has no definition"]),
     ("two that are missing", lambda std: without(std, ["mem_write", "set_cc"]), ["`set_cc` has no definition", "`mem_write` has no definition"]),
     ("a constant that is defined", lambda std: std + "word IRET = 9;\n", ["`IRET` cannot be defined"]),
@@ -207,6 +209,12 @@ def test_assembly(row, y86_tell):
     answer = y86_tell("fault", "f.ys", files={"f.ys": line + "\n"})
     same(lines_of(answer), [wanted])
     same(answer.status, 5)
+
+
+@pytest.mark.parametrize("name", ["mine", "mine.yo", "mine.ys"])
+def test_a_named_processor_makes_a_file_hcl(name, y86_tell):
+    same(y86_tell("fault", name, "pipe", files={name: example("std")}).text(), (0, "no fault\n", ""))
+    same(y86_tell("fault", name, "seq", files={name: "bool set_cc = icode == IOPQ & 1;\n"}).text(), (5, f'{name}:1:29: Write `&&` for "and".\n', ""))
 
 
 def test_every_faulty_line(y86_tell):

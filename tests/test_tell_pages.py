@@ -376,7 +376,7 @@ SENTENCES = {
         "A mispredicted jump is repaired while it is in memory: it costs two bubbles.",
         "A mispredicted jump may be repaired while it is in execute: it may then cost only one bubble.",
     ),
-    "rm": ("A return goes on from write-back: it costs three bubbles.", "A return may go on from memory: it then costs two bubbles."),
+    "rm": ("A return goes on from write-back: it costs three bubbles.", "A return may go on from memory: it may then cost only two bubbles."),
 }
 # A design, its jumps that are predicted as taken, forward and backward, and the settings that are on.
 SETTINGS = [

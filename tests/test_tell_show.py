@@ -322,7 +322,8 @@ def test_examples_of_faults(everything, y86_tell):
         for text, is_faulty in ((it["example"], True), (it["mend"], False)):
             if text:
                 name = f"t.{ENDINGS[it['language']]}"
-                said = json.loads(y86_tell("fault", name, "pipe", "--json", files={name: f"{text}\n".encode("utf-8")}).out)
+                processor = ["pipe"] if name.endswith(".hcl") else []
+                said = json.loads(y86_tell("fault", name, *processor, "--json", files={name: f"{text}\n".encode("utf-8")}).out)
                 assert (it["code"] in [fault["code"] for fault in said["faults"]]) == is_faulty, (it["code"], text, said)
 
 
