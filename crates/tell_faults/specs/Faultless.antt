@@ -11,10 +11,14 @@ use Rattle.yas_asm.specs.Assembly.{assembled}
 use Rattle.yas_asm.specs.declared.listing.Line.{Line}
 use Rattle.yo_object.specs.ObjectText.{object_of}
 
--- what a file is: HCL if a datapath is named, and else by the end of its name
+-- what a file is by the end of its name
+abbrev pub kind_by_name : List ℕ → Kind
+kind_by_name name = if ends_with nat_eq name (codes ".hcl") then Hcl else if ends_with nat_eq name (codes ".yo") then Object else Assembly
+
+-- the same, but HCL if a datapath is named
 abbrev pub kind_of : List ℕ → Option Datapath → Kind
 kind_of name (Some path) = Hcl
-kind_of name None = if ends_with nat_eq name (codes ".hcl") then Hcl else if ends_with nat_eq name (codes ".yo") then Object else Assembly
+kind_of name None = kind_by_name name
 
 -- an HCL text is a design for the datapath that is asked for, or for some datapath if none is; the assembler accepts a
 -- source; an object text is loaded

@@ -25,6 +25,7 @@ pub fn table_of(alloc: Global, path: Datapath) -> Result<Table, Memory>
 }
 
 /// The tables of the three datapaths.
+#[tactic(auto, using(crate::proofs::Faultless::each_table))]
 pub fn tables(alloc: Global) -> Result<Tables, Memory>
     ensures seq { IfOk result (λ t. IsSound t.seq.rows) }
     ensures seq_plus { IfOk result (λ t. IsSound t.seq_plus.rows) }

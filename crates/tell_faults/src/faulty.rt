@@ -46,13 +46,10 @@ fn limit_of(kind: Kind) -> u64 {
     }
 }
 
-/// What a file is: HCL if a datapath is named; else by the end of its name, `.hcl`, `.yo`, and assembly otherwise.
-fn kind_of(file: &str, path: Option<Datapath>) -> Kind
-    ensures { result ≡ kinds.kind_of file.now path }
+/// What a file is by the end of its name: `.hcl`, `.yo`, and assembly otherwise.
+fn kind_by_name(file: &str) -> Kind
+    ensures { result ≡ kinds.kind_by_name file.now }
 {
-    if path.is_some() {
-        return Kind::Hcl;
-    }
     let name = file.as_bytes();
     if name.ends_with(b".hcl") {
         Kind::Hcl
@@ -63,7 +60,18 @@ fn kind_of(file: &str, path: Option<Datapath>) -> Kind
     }
 }
 
+/// What a file is: HCL if a datapath is named.
+fn kind_of(file: &str, path: Option<Datapath>) -> Kind
+    ensures { result ≡ kinds.kind_of file.now path }
+{
+    match path {
+        Some(_) => Kind::Hcl,
+        None => kind_by_name(file),
+    }
+}
+
 /// The faults of an HCL text, for the datapath that is asked for, or for the one whose names fit best.
+#[tactic(auto, using(crate::proofs::Faultless::hcl_accepted))]
 pub fn hcl_faults_of(alloc: Global, text: &[u8], asked: Option<Datapath>) -> Result<Report, Memory>
     ensures { IfOk result (λ report. report.faults ≡ [] → (path : Datapath) × IsWanted asked path × HasTextDesign (table_rows path) text.now) }
 {
