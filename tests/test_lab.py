@@ -18,6 +18,7 @@ HINT = "`./y86-lab witness mine.hcl` looks for a program that shows it."
 IADDQ = "`iaddq` wasn't checked: `--full` checks it too."
 NAMES_IADDQ = "The file names IIADDQ, but iaddq wasn't checked. --full checks it too."
 DEEP = b"bool set_cc = " + b"(" * 30000 + b"1" + b")" * 30000 + b";\n"
+TOO_DEEP = b"With this `(` more than 64 brackets and `!` are open at one place.\n"
 UNPAIRED = b"bool F_bubble = 0\n\n# F waits\nbool F_stall = 1;\n"
 
 
@@ -148,12 +149,12 @@ def towering():
 
 def test_30000_brackets_explained(lab):
     status, out, err = lab("explain", "deep.hcl", files={"deep.hcl": DEEP})
-    same((status, out.split(b"\n")[0], err), (5, b"deep.hcl:1:79: With this `(` more than 64 brackets and `!` are open at one place.", b""))
+    same((status, out.split(b"\n")[0] + b"\n", err), (5, b"deep.hcl:1:79: " + TOO_DEEP, b""))
 
 
 @pytest.mark.parametrize("command", ("witness", "page"))
 def test_30000_brackets(command, lab):
-    same(lab(command, "deep.hcl", files={"deep.hcl": DEEP}), (5, b"", b"deep.hcl:1:79: DepthOver64\n"))
+    same(lab(command, "deep.hcl", files={"deep.hcl": DEEP}), (5, b"", b"deep.hcl:1:79: " + TOO_DEEP))
 
 
 def test_definitions_as_a_tower(explain):
@@ -206,13 +207,16 @@ def test_a_file_that_is_too_long(explain):
 # ---- `swap` over files with a fault, and behind a last line without a line feed
 
 SWAPPED = {"good.hcl": b"bool F_bubble = 0;\n# the end", "bad.hcl": UNPAIRED, "new.hcl": b"bool F_stall = 1;", "deep.hcl": DEEP}
+SWAPPED["deep.txt"] = DEEP
 SWAPPED["twice.hcl"] = b"bool F_stall = 1;\nbool F_stall = 0;\n"
 SWAPS = [
     ("good.hcl new.hcl", 0, b"bool F_bubble = 0;\n# the end\nbool F_stall = 1;\n", b""),
-    ("good.hcl bad.hcl", 5, b"", b"bad.hcl:4:1: Syntax\n"),
-    ("bad.hcl new.hcl", 5, b"", b"bad.hcl:4:1: Syntax\n"),
-    ("good.hcl twice.hcl", 5, b"", b"twice.hcl: Twice F_stall\n"),
-    ("good.hcl deep.hcl", 5, b"", b"deep.hcl:1:79: DepthOver64\n"),
+    ("good.hcl bad.hcl", 5, b"", b"bad.hcl:4:1: The definition before ends without `;`. Put one after `0` in line 1.\n"),
+    ("bad.hcl new.hcl", 5, b"", b"bad.hcl:4:1: The definition before ends without `;`. Put one after `0` in line 1.\n"),
+    ("good.hcl twice.hcl", 5, b"", b"twice.hcl:2:6: `F_stall` is defined a second time; its first definition is in line 1.\n"),
+    ("good.hcl deep.hcl", 5, b"", b"deep.hcl:1:79: " + TOO_DEEP),
+    ("good.hcl deep.txt", 5, b"", b"deep.txt:1:79: " + TOO_DEEP),
+    ("good.hcl p.ys", 2, b"", b"p.ys is a program, not HCL. The call is `y86-lab swap HCL DEFINITIONS`.\n"),
     ("good.hcl none.hcl", 3, b"", b"none.hcl: No such file or directory\n"),
 ]
 
@@ -298,6 +302,89 @@ CYCLES = [
         USAGE_CYCLES + b"argument --mem: 12: a multiple of 8 from 64 to 1048576 is wanted\n"),
     (("cycles", "std.hcl", "nofile.yo"), 3, b"", b"read fault nofile.yo\n"),
 ]
+# A load and its use at once, a jump that isn't taken, a call and its return.
+CAUSES = b"""0x000: 30f48000000000000000 | irmovq $0x80, %rsp
+0x00a: 50303000000000000000 | mrmovq 48(%rax), %rbx
+0x014: 6033 | addq %rbx, %rbx
+0x016: 732800000000000000 | je 0x28
+0x01f: 803800000000000000 | call 0x38
+0x028: 00 | halt
+0x030: 0500000000000000 |
+0x038: 90 | ret
+"""
+# Each instruction retires in the cycle after the one before, or later by the bubbles: 1, 2 and 3 (CS:APP 3e, section 4.5.8).
+WAITS = b"""cycle  waits  instruction
+    5     +4  0x000: irmovq $0x80, %rsp       filling the pipeline
+    6         0x00a: mrmovq 48(%rax), %rbx
+    8     +1  0x014: addq %rbx, %rbx          load/use: %rbx
+    9         0x016: je 0x28
+   12     +2  0x01f: call 0x38                mispredicted jump
+   13         0x038: ret
+   17     +3  0x028: halt                     return
+
+where the cycles went:
+      7  an instruction each
+      4  filling the pipeline
+      1  load/use
+      2  mispredicted jumps
+      3  returns
+     17  cycles for 7 instructions, to the end with HLT: 2.43 cycles per instruction
+"""
+# An instruction is fetched when the one before has left write-back. The first wait is for the sum's register, too; the second for none.
+ONE_AT_A_TIME = b"""cycle  waits  instruction
+    5     +4  0x000: irmovq $7, %rax          filling the pipeline
+    9     +3  0x00a: addq %rax, %rax          no forwarding: %rax
+   13     +3  0x00c: halt                     other
+
+where the cycles went:
+      3  an instruction each
+      4  filling the pipeline
+      3  no forwarding
+      3  other
+     13  cycles for 3 instructions, to the end with HLT: 4.33 cycles per instruction
+"""
+CYCLES += [
+    (("cycles", "std.hcl", "causes.yo"), 0, WAITS, b""),
+    (("cycles", "one_at_a_time.hcl", "sum.yo"), 0, ONE_AT_A_TIME, b""),
+]
+# Files with a fault: the sentences of `y86-tell fault`.
+NO_SEMICOLON = b"semicolon.hcl:117:1: The definition before ends without `;`. Put one after `0` in line 114.\n"
+NO_NAME = b"unknown.hcl:24:13: `icod` is no name of SEQ: a file uses and defines the names of its datapath alone.\n"
+NO_HALF = b"half.yo:1: The bytes have a hex digit too few: each byte has two.\n"
+NO_IADDQ = b"iadd.ys:1:1: `iaddq` is an instruction with `--full` alone. Without it, load the number by `irmovq` and use `addq`.\n"
+FAULTS = [
+    (tuple(words.split()), 5, b"", said)
+    for words, said in (
+        ("try iadd.ys std.hcl", NO_IADDQ),
+        ("try half.yo std.hcl", NO_HALF),
+        ("try half.yo seq.hcl", NO_HALF),
+        ("try add.yo semicolon.hcl", NO_SEMICOLON),
+        ("try add.yo unknown.hcl", NO_NAME),
+        ("page semicolon.hcl", NO_SEMICOLON),
+        ("page semicolon.hcl add.yo", NO_SEMICOLON),
+        ("page unknown.hcl add.yo", NO_NAME),
+        ("page std.hcl half.yo", NO_HALF),
+        ("cycles semicolon.hcl add.yo", NO_SEMICOLON),
+        ("cycles unknown.hcl add.yo", NO_NAME),
+        ("cycles seq.hcl half.yo", NO_HALF),
+        ("witness semicolon.hcl", NO_SEMICOLON),
+        ("witness many.hcl", b"many.hcl: the definitions compare more than 64 different pairs of words, too many for the check.\n"),
+    )
+]
+# Files in the wrong order, and others than HCL.
+ORDER = [
+    (tuple(words.split()), 2, b"", said)
+    for words, said in (
+        ("explain add.yo", b"add.yo is an object file, not HCL. The call is `y86-lab explain HCL`.\n"),
+        ("witness add.ys", b"add.ys is a program, not HCL. The call is `y86-lab witness HCL`.\n"),
+        ("watch add.yo", b"add.yo is an object file, not HCL. The call is `y86-lab watch HCL`.\n"),
+        ("page add.yo std.hcl", b"add.yo is an object file, not HCL. The call is `y86-lab page HCL [OBJ]`.\n"),
+        ("draw add.yo std.hcl", b"add.yo is an object file, not HCL. The call is `y86-lab draw HCL OBJ`.\n"),
+        ("cycles add.ys std.hcl", b"add.ys is a program, not HCL. The call is `y86-lab cycles HCL OBJ`.\n"),
+        ("try add.ys add.yo", b"add.yo is an object file, not HCL. The call is `y86-lab try PROGRAM HCL`.\n"),
+    )
+]
+ORDER += [(("try", *files), 0, b"add.yo comes out right on std.hcl.\n", b"") for files in (("add.yo", "std.hcl"), ("std.hcl", "add.yo"))]
 USAGE_CLASS = b"usage: y86-lab class [-h] [--jobs N] [--seconds N] [--megabytes N] [--no-head] [--full]\n                     FOLDER [FOLDER ...]\n"
 USAGE_CLASS += b"y86-lab class: error: "
 CLASS = [
@@ -373,7 +460,12 @@ ARCHLAB = [
 # (its first statement is on line 3; as object text it would be an empty program)
 SOURCE = b"ncopy.ys:3: This is a source and no object file: assemble it by `yas` first. As an object file it puts no byte anywhere.\n"
 SOURCES = [((name, "std.hcl", "ncopy.ys"), 5, b"", SOURCE) for name in ("cycles", "page")]
-FILES = {f"{name}.hcl": design(name) for name in ("std", "seq_plus", "seq", "stall_and_bubble")}
+FILES = {f"{name}.hcl": design(name) for name in ("std", "seq_plus", "seq", "stall_and_bubble", "one_at_a_time")}
+FILES["semicolon.hcl"] = design("std").replace("bool F_bubble = 0;", "bool F_bubble = 0")
+FILES["unknown.hcl"] = changed(design("seq"), srcA="icod")
+FILES["many.hcl"] = std(F_bubble=MANY)
+FILES |= {"causes.yo": CAUSES, "half.yo": "0x000: 1\n", "iadd.ys": "iaddq $1, %rax\n"}
+FILES["sum.yo"] = "0x000: 30f00700000000000000 | irmovq $7, %rax\n0x00a: 6000 | addq %rax, %rax\n0x00c: 00 | halt\n"
 # (of iaddq it forgets the flags)
 FILES["flags.hcl"] = changed(design("with_iaddq"), set_cc="E_icode == IOPQ && !m_stat in { SADR, SINS, SHLT } && !W_stat in { SADR, SINS, SHLT }")
 # (a jump in M never needs the second case, and the check asks for it)
@@ -382,7 +474,7 @@ FILES |= {"add.yo": read("programs/add.yo"), "ncopy.ys": NCOPY, "ncopy_iaddq.ys"
 FILES |= {"endless.ys": NCOPY.replace(b"jg next", b"jmp next"), "other.ys": NCOPY.replace(b"ncopy:", b"copy:"), "twice.ys": NCOPY + b"lab_to:\n"}
 
 
-@cases((" ".join(words), words, status, out, err) for words, status, out, err in (*WITNESS, *CYCLES, *ARCHLAB, *SOURCES, *CLASS))
+@cases((" ".join(words), words, status, out, err) for words, status, out, err in (*WITNESS, *CYCLES, *FAULTS, *ORDER, *ARCHLAB, *SOURCES, *CLASS))
 def test_command(row, lab):
     _, words, *wanted = row
     same(lab(*words, files=FILES), tuple(wanted))

@@ -2,14 +2,18 @@
 from __future__ import annotations
 
 import argparse
+import os
 from dataclasses import dataclass
 from typing import Callable
 
 from .calls import Programs
+from .errors import USAGE, LabError
 
 MOST = 1000000
 # Longer ones are numbers that no option takes.
 MOST_DIGITS = 40
+# What files are that aren't HCL, by the ends of their names.
+OTHERS = {".yo": "an object file", ".ys": "a program"}
 
 
 @dataclass(frozen=True)
@@ -65,6 +69,18 @@ def add_run_options(parser: argparse.ArgumentParser) -> None:
 
 def run_options(arguments: argparse.Namespace) -> list[str]:
     """The options of a run as words of a call."""
-    words = ["--full"] if arguments.full else []
-    words += ["--mem", str(arguments.mem)] if arguments.mem is not None else []
-    return words + (["--limit", str(arguments.limit)] if arguments.limit is not None else [])
+    limit = ["--limit", str(arguments.limit)] if arguments.limit is not None else []
+    return [*file_options(arguments), *limit]
+
+
+def file_options(arguments: argparse.Namespace) -> list[str]:
+    """Those of them by which a program's file is read."""
+    memory = ["--mem", str(arguments.mem)] if arguments.mem is not None else []
+    return [*(["--full"] if arguments.full else []), *memory]
+
+
+def stop_on_program(path: str, call: str) -> None:
+    """Raises an error if a file that has to be HCL is none by its name, with the right call."""
+    what = OTHERS.get(os.path.splitext(path)[1])
+    if what:
+        raise LabError(f"{path} is {what}, not HCL. The call is `y86-lab {call}`.", USAGE)

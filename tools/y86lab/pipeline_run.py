@@ -8,6 +8,7 @@ import re
 from dataclasses import dataclass
 from typing import Iterator, NamedTuple, Optional
 
+from . import tell
 from .calls import LONG, Limits, Programs, read_text
 from .errors import DONE, OUT_OF_TIME, REFUSED, LabError
 
@@ -22,7 +23,7 @@ LISTED = re.compile(r"\s*0x([0-9a-fA-F]+):\s*(?:[0-9a-fA-F]{2})+\s*\|(.*)")
 
 @dataclass(frozen=True)
 class Loss:
-    """Bubbles before an instruction: their cause, their number, and a word on them."""
+    """Bubbles before an instruction: their cause as the sums name it, their number, and the cause of these bubbles."""
 
     cause: str
     cycles: int
@@ -57,7 +58,7 @@ Cycle = dict[str, Slot]
 
 
 class Wait(NamedTuple):
-    """Why a bubble was put into a stage: a wait's cause with a word on it, or None: what was fetched was cancelled."""
+    """Why an instruction waited: the cause as the sums name it, and with the register."""
 
     cause: str
     text: str
@@ -96,7 +97,7 @@ class PipelineRun:
         ended = re.search(r"^end (\w+) cycles (\d+) retired (\d+)\n\Z", answer.out, re.M)
         if answer.status not in (DONE, REFUSED) or not ended:
             status = OUT_OF_TIME if answer.status is None else answer.status or REFUSED
-            raise LabError(answer.err.strip() or "y86-stages gave no answer", status)
+            raise LabError(tell.reason(programs, answer, path, options, "pipe") or "y86-stages gave no answer", status)
         self.status, self.cycles, self.retired = ended[1], int(ended[2]), int(ended[3])
         self.lines = answer.out.splitlines()
         self.sources = sources_of(object_path)
@@ -126,7 +127,7 @@ class PipelineRun:
 
 
 def reason_for_bubble(before: Cycle, now: Cycle, stage: str) -> Optional[Wait]:
-    """Why a bubble is new in a stage: the instruction in front of it waited there, or was cancelled."""
+    """Why a bubble is new in a stage: why the instruction in front of it waited there, or None: it was cancelled."""
     front = "FDEMW"["FDEMW".index(stage) - 1]
     is_kept = now[front].row == before[front].row
     return reason_for_wait(before) if is_kept and front != "F" else None
@@ -139,9 +140,9 @@ def reason_for_wait(cycle: Cycle) -> Wait:
         register = cycle[stage].fields[field]
         if register in read:
             if (stage, field) == ("E", "dstM"):
-                return Wait(LOAD_USE, f"{register} was being loaded")
-            return Wait(UNFORWARDED, f"{register} wasn't written yet")
-    return Wait(OTHER, "the file's control")
+                return Wait(LOAD_USE, f"{LOAD_USE}: {register}")
+            return Wait(UNFORWARDED, f"{UNFORWARDED}: {register}")
+    return Wait(OTHER, OTHER)
 
 
 def filling(cycles: int) -> list[Loss]:
@@ -153,11 +154,11 @@ def losses_of(last: str, waits: list[Optional[Wait]]) -> list[Loss]:
     losses = []
     cancelled = waits.count(None)
     if cancelled and last == "ret":
-        losses.append(Loss(RETURNS, cancelled, "the ret's address"))
+        losses.append(Loss(RETURNS, cancelled, "return"))
     elif cancelled and last.startswith("j"):
-        losses.append(Loss(MISPREDICTED, cancelled, "the jump was mispredicted"))
+        losses.append(Loss(MISPREDICTED, cancelled, "mispredicted jump"))
     elif cancelled:
-        losses.append(Loss(OTHER, cancelled, "the file's control"))
+        losses.append(Loss(OTHER, cancelled, OTHER))
     # (where it waited longer, the last reason is the one that a shorter wait would have had too)
     reasons = [wait for wait in waits if wait]
     return [*losses, Loss(reasons[-1].cause, len(reasons), reasons[-1].text)] if reasons else losses

@@ -12,8 +12,6 @@ from .hcl import without_comments
 
 NAME = "y86-tell"
 DATAPATHS = {"pipe": "PIPE", "seq": "SEQ", "seqplus": "SEQ+"}
-# What it says of a source in place of an object file.
-SOURCE = "This is a source and no object file"
 Json = dict[str, Any]
 
 
@@ -37,15 +35,28 @@ def check_in_words(programs: Programs, word: str, path: str, full: bool) -> Answ
     return programs.run("check", word, *full_flag(full), "--", path, program=NAME, limits=Limits(LONG))
 
 
-def faults_in_words(programs: Programs, path: str, full: bool) -> str:
-    """A line for each fault of a file; empty if there is none."""
-    return programs.run("fault", *full_flag(full), "--", path, program=NAME, limits=Limits(LONG)).out.strip()
+def faults_in_words(programs: Programs, path: str, options: Sequence[str]) -> str:
+    """A line for each fault of a file; `no fault` if there is none."""
+    return programs.run("fault", *options, "--", path, program=NAME, limits=Limits(LONG)).out.strip()
 
 
-def stop_on_source(programs: Programs, path: str, options: Sequence[str]) -> None:
-    """Raises an error if a file is a source in place of an object file: it would be taken for an empty program."""
+def reason(programs: Programs, answer: Answer, path: str, options: Sequence[str], word: str = "") -> str:
+    """Why a call gave no result: what y86-tell says if this file has a fault, and else what the call said.
+
+    The file is HCL for the datapath `word`, or a program if there is none.
+    """
+    if answer.status != FAULT or not answer.err.startswith(f"{path}:"):
+        return answer.err.strip()
+    # (of HCL the check says it: `fault` goes by the file's name, and doesn't know what the check alone refuses)
+    full = "--full" in options
+    said = check_in_words(programs, word, path, full).err if word else faults_in_words(programs, path, options)
+    return said.strip() or answer.err.strip()
+
+
+def stop_on_fault(programs: Programs, path: str, options: Sequence[str]) -> None:
+    """Raises an error if an object file has a fault, or is a source: that would be taken for an empty program."""
     answer = programs.run("program", *options, "--", path, program=NAME, limits=Limits(LONG))
-    if answer.status == FAULT and SOURCE in answer.err:
+    if answer.status == FAULT:
         raise LabError(answer.err.strip(), FAULT)
 
 

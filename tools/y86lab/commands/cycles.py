@@ -6,7 +6,7 @@ import re
 from typing import Sequence
 
 from .. import tell
-from ..arguments import Command, add_run_options, run_options
+from ..arguments import Command, add_run_options, run_options, stop_on_program
 from ..calls import Programs, read_text
 from ..errors import DONE, OUT_OF_TIME, REFUSED, LabError
 from ..pipeline_run import CAUSES, OTHER, PipelineRun, Retirement
@@ -21,9 +21,10 @@ def add_arguments(parser: argparse.ArgumentParser) -> None:
 
 def run(arguments: argparse.Namespace, programs: Programs) -> int:
     path, object_path = arguments.file, arguments.object
+    stop_on_program(path, "cycles HCL OBJ")
     read_text(path)
     datapath = tell.datapath(programs, path)
-    tell.stop_on_source(programs, object_path, run_options(arguments))
+    tell.stop_on_fault(programs, object_path, run_options(arguments))
     if datapath != "pipe":
         return print_sequential(programs, datapath, path, object_path, run_options(arguments))
     pipeline_run = PipelineRun(programs, path, object_path, run_options(arguments))
@@ -40,7 +41,7 @@ def print_sequential(programs: Programs, datapath: str, path: str, object_path: 
     report = re.match(r"Stopped in (\d+) steps.*Status '(\w+)'", answer.out)
     if not report:
         status = OUT_OF_TIME if answer.status is None else answer.status or REFUSED
-        raise LabError(answer.err.strip() or "the program gave no answer", status)
+        raise LabError(tell.reason(programs, answer, path, options, datapath) or "the program gave no answer", status)
     steps = f"{report[1]} cycles for {report[1]} instructions, {ending(report[2])}"
     print(f"{steps}: a sequential processor takes one cycle for each")
     return DONE

@@ -10,7 +10,7 @@ import os
 import shutil
 import subprocess
 
-from ..arguments import Command, add_run_options, run_options
+from ..arguments import Command, add_run_options, run_options, stop_on_program
 from ..calls import Programs
 from ..errors import DONE, LabError
 from .page import run_texts
@@ -26,6 +26,7 @@ def add_arguments(parser: argparse.ArgumentParser) -> None:
 
 
 def run(arguments: argparse.Namespace, programs: Programs) -> int:
+    stop_on_program(arguments.file, "draw HCL OBJ")
     node = shutil.which("node") or shutil.which("nodejs")
     script = os.path.join(programs.top, "web", "draw.mjs")
     if not node:

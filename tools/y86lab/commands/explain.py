@@ -7,7 +7,7 @@ import textwrap
 from typing import Iterator
 
 from .. import places, tell
-from ..arguments import Command, add_full
+from ..arguments import Command, add_full, stop_on_program
 from ..calls import Answer, Programs, read_text
 from ..errors import DONE, OUT_OF_TIME, REFUSED, USAGE
 
@@ -25,6 +25,7 @@ def add_arguments(parser: argparse.ArgumentParser) -> None:
 
 def run(arguments: argparse.Namespace, programs: Programs) -> int:
     path, full = arguments.file, arguments.full
+    stop_on_program(path, "explain HCL")
     text = read_text(path)
     datapath = tell.datapath(programs, path)
     if arguments.places:

@@ -12,8 +12,8 @@ import sys
 from typing import Any
 
 from .. import tell
-from ..arguments import Command, add_run_options, run_options
-from ..calls import LONG, Limits, Programs, read_text
+from ..arguments import Command, add_run_options, run_options, stop_on_program
+from ..calls import LONG, Limits, Programs, full_flag, read_text
 from ..errors import DONE, OUT_OF_TIME, REFUSED, USAGE, LabError
 
 # A page of more cycles would be slow to read and to open.
@@ -33,6 +33,7 @@ def add_arguments(parser: argparse.ArgumentParser) -> None:
 
 
 def run(arguments: argparse.Namespace, programs: Programs) -> int:
+    stop_on_program(arguments.file, "page HCL [OBJ]")
     files = [arguments.file, arguments.object] if arguments.object else [arguments.file]
     if arguments.object:
         title, data, said = run_data(programs, arguments.file, arguments.object, run_options(arguments))
@@ -72,7 +73,7 @@ def run_texts(programs: Programs, path: str, object_path: str, options: list[str
         named = programs.named(STAGES)
         told = f"a run by cycles needs the program {STAGES}, and {named} isn't there"
         raise LabError(f"{told}; Y86_STAGES in the environment may name it")
-    tell.stop_on_source(programs, object_path, options)
+    tell.stop_on_fault(programs, object_path, options)
     words = [path, object_path, *options, "--to", str(MOST_CYCLES)]
     if datapath != "pipe":
         words.append(f"--{datapath}")
@@ -81,7 +82,7 @@ def run_texts(programs: Programs, path: str, object_path: str, options: list[str
         raise LabError(f"{path}: {ALONE}, and this file is one for {tell.DATAPATHS[datapath]}")
     if answer.status not in (DONE, REFUSED) or "\nend " not in f"\n{answer.out}":
         status = OUT_OF_TIME if answer.status is None else answer.status or REFUSED
-        raise LabError(answer.err.strip() or f"{STAGES} gave no answer", status)
+        raise LabError(tell.reason(programs, answer, path, options, datapath) or f"{STAGES} gave no answer", status)
     diagram = programs.run(*words, "--diagram", program=STAGES, limits=Limits(LONG)).out if datapath == "pipe" else ""
     names = {"hcl": os.path.basename(path), "ys": os.path.basename(object_path)}
     with open(object_path, encoding="utf-8", errors="replace") as file:
@@ -108,7 +109,8 @@ def refusal_data(programs: Programs, path: str, full: bool) -> tuple[str, Data, 
         raise LabError(f"{path}: yes, so there is no situation to draw; with an object file the page shows its run")
     if answer.status != REFUSED:
         status = OUT_OF_TIME if answer.status is None else answer.status
-        raise LabError(answer.err.strip() or f"{path}: the check gave no answer", status)
+        said = tell.reason(programs, answer, path, full_flag(full), datapath)
+        raise LabError(said or f"{path}: the check gave no answer", status)
     lines = answer.out.splitlines()
     said = f"no, {lines[0].split()[1]} doesn't hold"
     names = {"hcl": os.path.basename(path), "ys": ""}

@@ -9,7 +9,7 @@ import tempfile
 from typing import Iterator
 
 from .. import tell
-from ..arguments import MOST, Command, add_run_options, number_to, run_options
+from ..arguments import MOST, Command, add_run_options, file_options, number_to, run_options, stop_on_program
 from ..calls import Answer, Limits, Programs, read_text
 from ..errors import DONE, OUT_OF_TIME, REFUSED, LabError
 
@@ -29,6 +29,10 @@ def add_arguments(parser: argparse.ArgumentParser) -> None:
 
 
 def run(arguments: argparse.Namespace, programs: Programs) -> int:
+    # (`run`, `psim` and `cycles` have the processor first)
+    if arguments.program.endswith(".hcl") and not arguments.file.endswith(".hcl"):
+        arguments.program, arguments.file = arguments.file, arguments.program
+    stop_on_program(arguments.file, "try PROGRAM HCL")
     read_text(arguments.file)
     datapath = tell.datapath(programs, arguments.file)
     options = run_options(arguments)
@@ -55,6 +59,7 @@ def run(arguments: argparse.Namespace, programs: Programs) -> int:
 def objects(arguments: argparse.Namespace, programs: Programs, folder: str) -> Iterator[tuple[list[str], str]]:
     """The object files to run, each with the words that were put into it."""
     if not arguments.program.endswith(".ys"):
+        tell.stop_on_fault(programs, arguments.program, run_options(arguments))
         yield [], arguments.program
         return
     source = read_text(arguments.program).split("\n")
@@ -81,11 +86,11 @@ def assembled(arguments: argparse.Namespace, programs: Programs, folder: str, te
     source, made = os.path.join(folder, "p.ys"), os.path.join(folder, "p.yo")
     with open(source, "w", encoding="utf-8") as file:
         file.write(text)
-    options = ["--full"] if arguments.full else []
-    options += ["--mem", str(arguments.mem)] if arguments.mem is not None else []
+    options = file_options(arguments)
     answer = programs.run("yas", source, *options)
     if answer.status != DONE:
-        raise LabError(answer.err.strip().replace(source, arguments.program), answer.status or REFUSED)
+        said = tell.reason(programs, answer, source, options)
+        raise LabError(said.replace(source, arguments.program), answer.status or REFUSED)
     with open(made, "w", encoding="utf-8") as file:
         file.write(answer.out)
     return made
@@ -108,7 +113,7 @@ def is_cut(programs: Programs, path: str, made: str, options: list[str]) -> bool
 def sequential_difference(programs: Programs, datapath: str, path: str, made: str, options: list[str]) -> str:
     """The lines in which the reports of SEQ or SEQ+ and of the instructions differ; empty if none does."""
     wanted = answered(programs, "yis", made, *options).out
-    report = answered(programs, COMMANDS[datapath], path, made, *options).out
+    report = answered(programs, COMMANDS[datapath], path, made, *options, hcl=(path, datapath)).out
     if report == wanted:
         return ""
     lines = ["The processor ends otherwise than the instructions say."]
@@ -118,12 +123,16 @@ def sequential_difference(programs: Programs, datapath: str, path: str, made: st
     return "".join(f"{line}\n" for line in lines)
 
 
-def answered(programs: Programs, *words: str, program: str = "y86") -> Answer:
-    """The answer of a call that gives one: a run that ended, at its limit or before."""
+def answered(programs: Programs, *words: str, program: str = "y86", hcl: tuple[str, str] = ("", "")) -> Answer:
+    """The answer of a call that gives one: a run that ended, at its limit or before.
+
+    Where the call is one of y86 with an HCL file, that file and its datapath are `hcl`.
+    """
     answer = programs.run(*words, program=program, limits=Limits(LONG_RUN))
     if answer.status not in (DONE, REFUSED):
         status = OUT_OF_TIME if answer.status is None else answer.status
-        raise LabError(answer.err.strip() or "a run gave no report in time", status)
+        path, word = hcl
+        raise LabError(tell.reason(programs, answer, path, words, word) or "a run gave no report in time", status)
     return answer
 
 

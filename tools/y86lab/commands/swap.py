@@ -7,8 +7,8 @@ import shutil
 import sys
 import tempfile
 
-from .. import hcl
-from ..arguments import Command
+from .. import hcl, tell
+from ..arguments import Command, stop_on_program
 from ..calls import Programs, read_exactly
 from ..errors import DONE, FAULT, LabError
 
@@ -21,10 +21,13 @@ def add_arguments(parser: argparse.ArgumentParser) -> None:
 
 def run(arguments: argparse.Namespace, programs: Programs) -> int:
     design, others = (read_design(programs, path) for path in (arguments.file, arguments.definitions))
-    names = [definition.name for definition in others.definitions]
-    twice = next((name for number, name in enumerate(names) if name in names[:number]), None)
-    if twice:
-        raise LabError(f"{arguments.definitions}: Twice {twice}", FAULT)
+    for second in others.definitions:
+        first = others.by_name[second.name]
+        if second is not first:
+            place = f"{arguments.definitions}:{others.line(second.name_start)}:{others.column(second.name_start)}"
+            line = others.line(first.name_start)
+            told = f"`{second.name}` is defined a second time; its first definition is in line {line}."
+            raise LabError(f"{place}: {told}", FAULT)
     text = hcl.replaced(design, others)
     if arguments.in_place:
         write(arguments.file, text)
@@ -35,10 +38,12 @@ def run(arguments: argparse.Namespace, programs: Programs) -> int:
 
 
 def read_design(programs: Programs, path: str) -> hcl.Design:
-    """The design of a file. If it isn't HCL, y86 says where."""
+    """The design of a file. If it isn't HCL, y86-tell says where."""
+    stop_on_program(path, "swap HCL DEFINITIONS")
     design = hcl.design_of(read_exactly(path))
     if design is None:
-        raise LabError(programs.run("hcl", path).err.strip() or f"{path}: this isn't HCL", FAULT)
+        said = tell.reason(programs, programs.run("hcl", path), path, [], "pipe")
+        raise LabError(said or f"{path}: this isn't HCL", FAULT)
     return design
 
 

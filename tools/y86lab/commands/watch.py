@@ -8,7 +8,7 @@ import time
 from typing import Optional
 
 from .. import tell
-from ..arguments import MOST, Command, add_full, number_to
+from ..arguments import MOST, Command, add_full, number_to, stop_on_program
 from ..calls import Programs, full_flag
 from ..errors import DONE, UNREADABLE, LabError
 from . import explain
@@ -34,6 +34,8 @@ def stamp(path: str) -> Optional[tuple[int, int, int]]:
 
 
 def run(arguments: argparse.Namespace, programs: Programs) -> int:
+    if not arguments.file.endswith(".ys"):
+        stop_on_program(arguments.file, "watch HCL")
     answers, last = 0, None
     while True:
         # (an editor may take the file away for a moment)
@@ -61,8 +63,9 @@ def answer(arguments: argparse.Namespace, programs: Programs) -> None:
         if not arguments.file.endswith(".ys"):
             explain.run(arguments, programs)
             return
-        assembled = programs.run("yas", arguments.file, *full_flag(arguments.full))
-        print(assembled.out or tell.faults_in_words(programs, arguments.file, arguments.full) or assembled.err.strip())
+        flags = full_flag(arguments.full)
+        assembled = programs.run("yas", arguments.file, *flags)
+        print(assembled.out or tell.faults_in_words(programs, arguments.file, flags) or assembled.err.strip())
     except LabError as fault:
         print(fault)
 

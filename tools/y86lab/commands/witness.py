@@ -9,8 +9,8 @@ import tempfile
 from typing import Iterator, Optional
 
 from .. import counterexample, hcl, tell, trial_programs
-from ..arguments import MOST, Command, add_full, digits, number_to
-from ..calls import Programs, read_text
+from ..arguments import MOST, Command, add_full, digits, number_to, stop_on_program
+from ..calls import Programs, full_flag, read_text
 from ..errors import DONE, OUT_OF_TIME, REFUSED, LabError
 from ..trial import COMMANDS, OutOfTime, Trial, shortened, source_of
 from ..trial_programs import Lines
@@ -41,13 +41,15 @@ def add_arguments(parser: argparse.ArgumentParser) -> None:
 
 def run(arguments: argparse.Namespace, programs: Programs) -> int:
     path, full = arguments.file, arguments.full
+    stop_on_program(path, "witness HCL")
     text = read_text(path)
     design = hcl.design_of(text)
     datapath = tell.datapath(programs, path)
     answer = programs.check(datapath, path, full)
     if answer.status is None or answer.status not in (DONE, REFUSED):
         status = OUT_OF_TIME if answer.status is None else answer.status
-        raise LabError(answer.err.strip() or f"{path}: the check gives no answer", status)
+        said = tell.reason(programs, answer, path, full_flag(full), datapath)
+        raise LabError(said or f"{path}: the check gives no answer", status)
     print(f"{path}: {answer.out.splitlines()[0]}")
     note = tell.unasked(text, full)
     if answer.status == DONE:
