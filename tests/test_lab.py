@@ -460,11 +460,14 @@ ARCHLAB = [
 # (its first statement is on line 3; as object text it would be an empty program)
 SOURCE = b"ncopy.ys:3: This is a source and no object file: assemble it by `yas` first. As an object file it puts no byte anywhere.\n"
 SOURCES = [((name, "std.hcl", "ncopy.ys"), 5, b"", SOURCE) for name in ("cycles", "page")]
+# (`yas` leaves such a file of a source that it refuses)
+EMPTY = b"empty.yo: No line puts a byte anywhere. If `yas` refused the source, mend it and assemble it again.\n"
+SOURCES += [((name, "std.hcl", "empty.yo"), 5, b"", EMPTY) for name in ("cycles", "page", "try")]
 FILES = {f"{name}.hcl": design(name) for name in ("std", "seq_plus", "seq", "stall_and_bubble", "one_at_a_time")}
 FILES["semicolon.hcl"] = design("std").replace("bool F_bubble = 0;", "bool F_bubble = 0")
 FILES["unknown.hcl"] = changed(design("seq"), srcA="icod")
 FILES["many.hcl"] = std(F_bubble=MANY)
-FILES |= {"causes.yo": CAUSES, "half.yo": "0x000: 1\n", "iadd.ys": "iaddq $1, %rax\n"}
+FILES |= {"causes.yo": CAUSES, "empty.yo": "", "half.yo": "0x000: 1\n", "iadd.ys": "iaddq $1, %rax\n"}
 FILES["sum.yo"] = "0x000: 30f00700000000000000 | irmovq $7, %rax\n0x00a: 6000 | addq %rax, %rax\n0x00c: 00 | halt\n"
 # (of iaddq it forgets the flags)
 FILES["flags.hcl"] = changed(design("with_iaddq"), set_cc="E_icode == IOPQ && !m_stat in { SADR, SINS, SHLT } && !W_stat in { SADR, SINS, SHLT }")
