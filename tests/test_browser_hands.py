@@ -248,7 +248,7 @@ def test_faults(hand, size, at):
     assert at.do("el('verdict').classList.contains('stale')")
     at.settle()
     same(at.do(NOTE.replace("WHICH", "hcl")), [3, True, True])
-    said(at, "hcl-strip", "line 3, column 6", "mine is no name of PIPE")
+    said(at, "hcl-strip", "line 3, column 6", "mine is neither a signal nor a constant of PIPE")
     said(at, "verdict", "no answer", "The processor has a fault in line 3, column 6")
     said(at, "outcome", "It assembles; the processor has a fault")
     for _ in "\nbool mine = 1;":

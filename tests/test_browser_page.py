@@ -302,8 +302,8 @@ HCL_FAULTS = [
     ("& for &&", STD.replace("&& !e_Cnd", "& !e_Cnd", 1), 77, "Write && for"),
     ("a set in parentheses", STD.replace("in { IJXX, ICALL }", "in ( IJXX, ICALL )", 1), 29, "x in { a, b }"),
     ("a comment of C", STD + "\n// end\n", STD.count("\n") + 2, "A comment begins with #"),
-    ("a signal of SEQ", STD.replace("d_srcA == e_dstE", "srcA == e_dstE"), 49, "srcA is no name of PIPE"),
-    ("a misspelled signal", STD.replace("d_srcB == W_dstM", "d_srcB == W_dstm"), 55, "W_dstm is no name of PIPE"),
+    ("a signal of SEQ", STD.replace("d_srcA == e_dstE", "srcA == e_dstE"), 49, "srcA is neither a signal nor a constant of PIPE"),
+    ("a misspelled signal", STD.replace("d_srcB == W_dstM", "d_srcB == W_dstm"), 55, "W_dstm is neither a signal nor a constant of PIPE"),
     ("a definition that is missing", re.sub(r"bool set_cc[^;]*;", "", STD), 0, "set_cc has no definition"),
     ("several", STD.replace("d_srcA == e_dstE", "srcA == e_dstE").replace("d_srcB == W_dstM", "d_srcB == W_dstm"), 49, "and 1 more"),
 ]

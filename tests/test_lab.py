@@ -349,7 +349,7 @@ CYCLES += [
 ]
 # Files with a fault: the sentences of `y86-tell fault`.
 NO_SEMICOLON = b"semicolon.hcl:117:1: The definition before ends without `;`. Put one after `0` in line 114.\n"
-NO_NAME = b"unknown.hcl:24:13: `icod` is no name of SEQ: a file uses and defines the names of its datapath alone.\n"
+NO_NAME = b"unknown.hcl:24:13: `icod` is neither a signal nor a constant of SEQ.\n"
 NO_HALF = b"half.yo:1: The bytes have a hex digit too few: each byte has two.\n"
 NO_IADDQ = b"iadd.ys:1:1: `iaddq` is an instruction with `--full` alone. Without it, load the number by `irmovq` and use `addq`.\n"
 FAULTS = [
@@ -368,7 +368,7 @@ FAULTS = [
         ("cycles unknown.hcl add.yo", NO_NAME),
         ("cycles seq.hcl half.yo", NO_HALF),
         ("witness semicolon.hcl", NO_SEMICOLON),
-        ("witness many.hcl", b"many.hcl: the definitions compare more than 64 different pairs of words, too many for the check.\n"),
+        ("witness many.hcl", b"many.hcl: the definitions compare more than 64 different pairs of words, and the check takes 64 at most.\n"),
     )
 ]
 # Files in the wrong order, and others than HCL.
@@ -385,6 +385,9 @@ ORDER = [
     )
 ]
 ORDER += [(("try", *files), 0, b"add.yo comes out right on std.hcl.\n", b"") for files in (("add.yo", "std.hcl"), ("std.hcl", "add.yo"))]
+# (a program with iaddq ends at it without --full, on every right processor)
+PLUS = b"It ends at 0x0 with status INS, and not at a halt. iaddq is an instruction only with --full.\n"
+ORDER += [(("try", "plus.yo", name), 0, b"plus.yo comes out right on " + name.encode() + b".\n" + PLUS, b"") for name in ("std.hcl", "seq.hcl")]
 USAGE_CLASS = b"usage: y86-lab class [-h] [--jobs N] [--seconds N] [--megabytes N] [--no-head] [--full]\n                     FOLDER [FOLDER ...]\n"
 USAGE_CLASS += b"y86-lab class: error: "
 CLASS = [
@@ -467,6 +470,7 @@ FILES = {f"{name}.hcl": design(name) for name in ("std", "seq_plus", "seq", "sta
 FILES["semicolon.hcl"] = design("std").replace("bool F_bubble = 0;", "bool F_bubble = 0")
 FILES["unknown.hcl"] = changed(design("seq"), srcA="icod")
 FILES["many.hcl"] = std(F_bubble=MANY)
+FILES |= {"plus.yo": "0x000: c0f00100000000000000 | iaddq $1, %rax\n0x00a: 00 | halt\n"}
 FILES |= {"causes.yo": CAUSES, "empty.yo": "", "half.yo": "0x000: 1\n", "iadd.ys": "iaddq $1, %rax\n"}
 FILES["sum.yo"] = "0x000: 30f00700000000000000 | irmovq $7, %rax\n0x00a: 6000 | addq %rax, %rax\n0x00c: 00 | halt\n"
 # (of iaddq it forgets the flags)

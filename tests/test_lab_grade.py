@@ -533,5 +533,6 @@ on the processor:
 def test_try_of_an_object_file(lab):
     files = {"std.hcl": example("std"), "seq.hcl": example("seq"), "p.yo": "0x000: 00 |\n", "q.ys": "movq\n"}
     same(lab("try", "p.yo", "seq.hcl", files=files), (0, "p.yo comes out right on seq.hcl.\n", ""))
-    same(lab("try", "q.ys", "std.hcl"), (5, "", "q.ys:1: Syntax\n"))
+    moves = "four moves: `rrmovq rA, rB`, `irmovq V, rB`, `rmmovq rA, D(rB)` and `mrmovq D(rB), rA`."
+    same(lab("try", "q.ys", "std.hcl"), (5, "", f"q.ys:1:1: Y86-64 has no `movq`, but {moves}\n"))
     same(lab("try", "none.ys", "std.hcl")[0], 3)

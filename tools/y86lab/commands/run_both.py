@@ -37,7 +37,7 @@ def run(arguments: argparse.Namespace, programs: Programs) -> int:
     datapath = tell.datapath(programs, arguments.file)
     options = run_options(arguments)
     difference = pipeline_difference if datapath == "pipe" else sequential_difference
-    tried = cut = 0
+    tried, cut, end = 0, 0, ""
     with tempfile.TemporaryDirectory() as folder:
         for words, made in objects(arguments, programs, folder):
             told = difference(programs, datapath, arguments.file, made, options)
@@ -50,10 +50,20 @@ def run(arguments: argparse.Namespace, programs: Programs) -> int:
                     print(f"The .quad lines were: {' '.join(words)}\n")
                 print(told, end="")
                 return REFUSED
+            end = end or unusual_end(programs, made, options)
     inputs = "" if tried + cut == 1 else f" with each of {tried} inputs"
     others = f" With {cut} others it is right up to the limit of cycles, and doesn't end." if cut else ""
-    print(f"{arguments.program} comes out right on {arguments.file}{inputs}.{others}")
+    print(f"{arguments.program} comes out right on {arguments.file}{inputs}.{others}{end}")
     return DONE
+
+
+def unusual_end(programs: Programs, made: str, options: list[str]) -> str:
+    """A sentence on a run by the instructions that doesn't end at a halt; empty if it does."""
+    report = re.match(r"Stopped in \d+ steps at PC = (0x\w+)\.  Status '(\w+)'", answered(programs, "yis", made, *options).out)
+    if not report or report[2] in ("AOK", "HLT"):
+        return ""
+    full = " iaddq is an instruction only with --full." if report[2] == "INS" and "--full" not in options else ""
+    return f"\nIt ends at {report[1]} with status {report[2]}, and not at a halt.{full}"
 
 
 def objects(arguments: argparse.Namespace, programs: Programs, folder: str) -> Iterator[tuple[list[str], str]]:
