@@ -9,7 +9,7 @@ use tell_checks::check;
 use tell_faults::{Said, Stop, report_faults};
 use tell_runs::{report_program, tell_run};
 use tell_words::{Call, is_limit, is_size};
-use wb_io::{Files, Sink, put_all, put_pieces};
+use wb_io::{Files, Sink, put_all};
 
 /// The message for a memory whose size is no multiple of 8.
 const ODD_SIZE: &str = "--mem takes a multiple of 8 from 64 to 1048576\n";
@@ -81,7 +81,9 @@ fn tell_stop<E: Sink>(stop: &Stop<'_>, err: &mut E) -> u8
         Stop::TooLong(name) => (*name, TOO_LONG.as_bytes()),
         Stop::Memory => ("", b"out of memory\n".as_slice()),
     };
-    let _ = put_pieces(err, &[name.as_bytes(), text]);
+    if put_all(err, name.as_bytes()).is_ok() {
+        let _ = put_all(err, text);
+    }
     stop.status()
 }
 
