@@ -59,7 +59,8 @@ def run(arguments: argparse.Namespace, programs: Programs) -> int:
 
 def unusual_end(programs: Programs, made: str, options: list[str]) -> str:
     """A sentence on a run by the instructions that doesn't end at a halt; empty if it does."""
-    report = re.match(r"Stopped in \d+ steps at PC = (0x\w+)\.  Status '(\w+)'", answered(programs, "yis", made, *options).out)
+    told = answered(programs, "yis", made, *options).out
+    report = re.match(r"Stopped in \d+ steps at PC = (0x\w+)\.  Status '(\w+)'", told)
     if not report or report[2] in ("AOK", "HLT"):
         return ""
     full = " iaddq is an instruction only with --full." if report[2] == "INS" and "--full" not in options else ""
