@@ -23,7 +23,7 @@ def test_well_known_definitions():
     """Definitions that a reader of the claim meets; and one of the checker, which the claim doesn't need."""
     found = {(path.removeprefix("crates/"), name) for path, names in claim().items() for name in names}
     assert {
-        ("cli_plans/specs/Designs.antt", "IsDesign"), ("yis_pure_runs/specs/Near.antt", "NearPure"), ("y86_isa/specs/Table.antt", "base_rows"),
+        ("hcl_design/specs/Designs.antt", "IsDesign"), ("yis_pure_runs/specs/Near.antt", "NearPure"), ("y86_isa/specs/Table.antt", "base_rows"),
         ("dp_signals/specs/Tables.antt", "constant_rows"), ("hcl_read/specs/Grammar.antt", "IsExpr"), ("y86_isa/src/machine.rt", "Machine"),
     } <= found
     assert not any(path.startswith("pipe_obligations/") for path, _ in found)

@@ -4,7 +4,8 @@ use Rattle.dp_signals.specs.PipeTable.{pipe_rows}
 use Rattle.y86_base.specs.declared.parts.Variant.{Variant}
 use Rattle.cli_checks.specs.Checks.{PipeChecks, SeqChecks}
 use Rattle.seq_plus.specs.Datapaths.{rows_of}
-use Rattle.cli_plans.specs.Designs.{IsDesign, RefusesDesign}
+use Rattle.hcl_design.specs.Designs.{IsDesign}
+use Rattle.cli_plans.specs.Designs.{RefusesDesign}
 use Rattle.cli_plans.specs.Plan.{Plan, value_in, reads, answer_in}
 use Rattle.hcl_types.specs.declared.table.SequentialDatapath.{SequentialDatapath}
 use Rattle.cli_plans.specs.Stages.{hcl_limit}

@@ -7,7 +7,8 @@ use Rattle.hcl_types.specs.declared.term.Term.{Term}
 use Rattle.cli_obligations.specs.AigerTexts.{AigAnswers, AigrunAnswers}
 use Rattle.cli_obligations.specs.Certified.{PipeCertifies, Rechecks, cert_limit}
 use Rattle.cli_verdicts.specs.Verdicts.{RefusesControl}
-use Rattle.cli_plans.specs.Designs.{IsDesign, RefusesDesign}
+use Rattle.hcl_design.specs.Designs.{IsDesign}
+use Rattle.cli_plans.specs.Designs.{RefusesDesign}
 use Rattle.cli_obligations.specs.Samples.{SampleAnswers}
 use Rattle.cli_plans.specs.Plan.{Plan, value_in, reads, answer_in}
 use Rattle.cli_plans.specs.Stages.{hcl_limit}

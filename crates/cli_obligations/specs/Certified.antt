@@ -14,7 +14,7 @@ use Rattle.pipe_motion.specs.declared.settings.Settings.{Settings}
 use Rattle.wb_io.specs.Files.{HasBytes}
 use Rattle.y86_base.specs.declared.parts.Variant.{Variant}
 use Rattle.cli_verdicts.specs.Verdicts.{AnswersNoPipe, RefusesPipe}
-use Rattle.cli_plans.specs.Designs.{IsDesign}
+use Rattle.hcl_design.specs.Designs.{IsDesign}
 use Rattle.cli_plans.specs.Lines.{fault_line}
 use Rattle.cli_plans.specs.Known.{Known}
 use Rattle.cli_plans.specs.Plan.{Answer, done, refused}

@@ -12,7 +12,8 @@ use Rattle.hcl_types.specs.declared.table.Row.{Row}
 use Rattle.hcl_types.specs.declared.term.Term.{Term}
 use Rattle.hcl_order.specs.Dependence.{Depends, FirstCycle}
 use Rattle.cli_plans.specs.declared.stop_reason.StopReason as code
-use Rattle.cli_plans.specs.Designs.{IsDesign, RefusesDesign, RefusesHcl}
+use Rattle.hcl_design.specs.Designs.{IsDesign}
+use Rattle.cli_plans.specs.Designs.{RefusesDesign, RefusesHcl}
 use Rattle.cli_plans.specs.PlanFollowing.{RefusesWith}
 use Rattle.cli_plans.specs.Lines.{bind_fault_line, blank_names, cycle_line, names_at}
 use Rattle.cli_plans.specs.Plan.{refused}
@@ -38,7 +39,7 @@ unordered name rows text file terms ids stop reads binds first (inr said) =
 
 pub ordered : (rows : List Row) (text : List ℕ) (file : File) (terms : List Term) → ReadsAs text file → bound rows file.items ≡ Ok terms →
     ((n : ℕ) → Depends (needs_of (needs rows terms)) n n → ⊥) → IsDesign rows text terms
-ordered rows text file terms reads binds acyclic = record { file = file; reads = reads; binds = binds; acyclic = acyclic }
+ordered rows text file terms reads binds acyclic = record { file = file; reads = reads; design = record { binds = binds; acyclic = acyclic } }
 
 -- ---- the names of rows
 

@@ -1,4 +1,4 @@
--- The design of an HCL file over a table: the text is read and bound, and its signals have an order.
+-- The refusals of an HCL text that has no design over a table.
 use Rattle.std.specs.Prelude.{◌≡◌, ◌⊎◌, ℕ, List, Ok, Err}
 use Rattle.hcl_read.specs.Read.{IsFault, ReadsAs}
 use Rattle.hcl_read.specs.declared.fault.HclFault.{HclFault}
@@ -9,20 +9,13 @@ use Rattle.hcl_types.specs.Tables.{needs, row_names}
 use Rattle.hcl_binding.specs.declared.fault.BindFault.{BindFault}
 use Rattle.hcl_types.specs.declared.table.Row.{Row}
 use Rattle.hcl_types.specs.declared.term.Term.{Term}
-use Rattle.hcl_order.specs.Dependence.{Depends, FirstCycle}
+use Rattle.hcl_order.specs.Dependence.{FirstCycle}
 use Rattle.cli_plans.specs.Lines.{bind_fault_line, cycle_line, hcl_fault_line, names_at}
 use Rattle.cli_plans.specs.Plan.{Answer, refused}
 
 -- the refusal of an HCL text with a fault
 abbrev pub RefusesHcl : List ℕ → List ℕ → Answer → Type 0
 RefusesHcl name text a = (fault : HclFault) × IsFault text fault × (a ≡ refused 5 (hcl_fault_line name fault))
-
--- the definitions of a text, in table order; no name depends on itself
-pub record IsDesign (rows : List Row) (text : List ℕ) (terms : List Term) : Type 0 where
-  pub file : File
-  pub reads : ReadsAs text file
-  pub binds : bound rows file.items ≡ Ok terms
-  pub acyclic : (n : ℕ) → Depends (needs_of (needs rows terms)) n n → ⊥
 
 -- the refusal of a text that can't be bound
 pub record RefusesBinding (name : List ℕ) (rows : List Row) (text : List ℕ) (a : Answer) : Type 0 where

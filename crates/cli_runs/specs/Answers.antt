@@ -19,7 +19,8 @@ use Rattle.cli_runs.specs.Big.{BigAnswers}
 use Rattle.cli_verdicts.specs.Verdicts.{AnswersYesPipe, RefusesPipe}
 use Rattle.cli_plans.specs.Datapaths.{IsMachineRun}
 use Rattle.seq_plus.specs.Datapaths.{rows_of}
-use Rattle.cli_plans.specs.Designs.{IsDesign, RefusesDesign, RefusesHcl}
+use Rattle.hcl_design.specs.Designs.{IsDesign}
+use Rattle.cli_plans.specs.Designs.{RefusesDesign, RefusesHcl}
 use Rattle.cli_plans.specs.Lines.{assembly_fault_line}
 use Rattle.cli_runs.specs.PipeRuns.{RunsTo, run_text}
 use Rattle.cli_plans.specs.Plan.{Answer, Plan, value_from, answers, done, value_in, reads, refused, answer_in}

@@ -1,2 +1,3 @@
 pub mod Datapaths
+pub mod ObjectBytes
 pub mod Told

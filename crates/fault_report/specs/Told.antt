@@ -1,20 +1,14 @@
 -- Which faults of a file are reported.
-use Rattle.std.specs.Prelude.{ℕ, ◌≡◌, List, [], Option, Some, None, Result, Ok, Err}
+use Rattle.std.specs.Prelude.{ℕ, ◌≡◌, ◌↔◌, true, List, [], Option, Some, None, Result, Ok, Err}
 use Rattle.std.specs.List.{Contains}
-use Rattle.hcl_binding.specs.Binding.{bound}
-use Rattle.hcl_order.specs.Dependence.{Depends}
-use Rattle.hcl_read.specs.Read.{ReadsAs}
-use Rattle.hcl_tree.specs.declared.tree.File.{File}
-use Rattle.hcl_tree.specs.declared.tree.Item.{Item}
-use Rattle.hcl_types.specs.Equations.{needs_of}
-use Rattle.hcl_types.specs.Tables.{needs}
+use Rattle.hcl_design.specs.Designs.{HasDesign}
 use Rattle.hcl_types.specs.declared.table.Datapath.{Datapath}
 use Rattle.hcl_types.specs.declared.table.Datapath.TheVariants.{Seq, SeqPlus, Pipe}
 use Rattle.hcl_types.specs.declared.table.Row.{Row}
-use Rattle.hcl_types.specs.declared.term.Term.{Term}
 use Rattle.yas_asm.specs.declared.fault.AsmFault.{AsmFault}
 use Rattle.yas_asm.specs.declared.listing.Line.{Line}
 use Rattle.yo_object.specs.declared.object.YoFault.{YoFault}
+use Rattle.fault_report.specs.ObjectBytes.{puts_bytes}
 use Rattle.fault_report.specs.declared.facts.Fault.{Fault}
 use Rattle.fault_report.specs.declared.facts.Report.{Report}
 use Rattle.fault_report.specs.declared.facts.Tables.{Tables}
@@ -30,21 +24,11 @@ abbrev pub Reports : Result (List Line) AsmFault → List Fault → Type 0
 Reports (Ok lines) faults = faults ≡ []
 Reports (Err first) faults = IsTold first.line faults
 
--- if an object text is refused, the line for which it is refused is among the reported lines. An accepted one may be
--- reported too: it may put no byte anywhere.
-abbrev pub ReportsObject : Result (List ℕ) YoFault → List Fault → Type 0
-ReportsObject (Ok image) faults = Unit {0}
-ReportsObject (Err first) faults = IsTold first.line faults
-
--- the items of an HCL file are definitions over a table, and no signal depends on itself
-pub record HasOrderedDesign (rows : List Row) (items : List Item) : Type 0 where
-  pub terms : List Term
-  pub binds : bound rows items ≡ Ok terms
-  pub acyclic : (n : ℕ) → Depends (needs_of (needs rows terms)) n n → ⊥
-
--- the text is such a file
-abbrev pub HasTextDesign : List Row → List ℕ → Type 0
-HasTextDesign rows text = (file : File) × ReadsAs text file × HasOrderedDesign rows file.items
+-- if an object text is refused, the line for which it is refused is among the reported lines; an accepted one has no
+-- fault exactly if it puts a byte
+abbrev pub ReportsObject : List ℕ → Result (List ℕ) YoFault → List Fault → Type 0
+ReportsObject text (Ok image) faults = (faults ≡ []) ↔ (puts_bytes text ≡ true)
+ReportsObject text (Err first) faults = IsTold first.line faults
 
 -- the table of a datapath
 abbrev pub rows_in : Tables → Datapath → List Row
@@ -62,7 +46,7 @@ pub record IsFaultless (tables : Tables) (asked : Option Datapath) (text : List 
   pub path : Datapath
   pub wanted : IsWanted asked path
   pub same : named ≡ Some path
-  pub design : HasTextDesign (rows_in tables path) text
+  pub design : HasDesign (rows_in tables path) text
 
 -- an HCL text without a reported fault has none
 abbrev pub ReportsHcl : Tables → Option Datapath → List ℕ → Report → Type 0

@@ -2,7 +2,7 @@
 ghost use Rattle.std.specs.Prelude.{◌≡◌, ◌≢◌, [], IfOk};
 ghost use Rattle.std.specs.List.Sorted.{IsPermutation};
 ghost use Rattle.hcl_types.specs.Tables.{IsSound};
-ghost use Rattle.fault_report.specs.Told.{HasOrderedDesign};
+ghost use Rattle.hcl_design.specs.Designs.{HasDesignOf};
 
 use crate::blame::{Blame, Blamed, first_blame, kind_of_row};
 use crate::facts::{Fault, Related, datapath_name, other_place};
@@ -646,7 +646,7 @@ pub fn table_faults(
     table: &Table,
 ) -> Result<Vec<Fault>, Memory>
     requires { IsSound table.now.rows }
-    ensures { IfOk result (λ faults. faults.items ≡ [] → HasOrderedDesign table.now.rows file.items) }
+    ensures { IfOk result (λ faults. faults.items ≡ [] → HasDesignOf table.now.rows file.items) }
 {
     match bind(alloc, &file, table) {
         Err(fault) => match fault.why {

@@ -1,7 +1,8 @@
 //! The faults of an HCL text, for a given datapath or for the one whose names fit best.
 ghost use Rattle.std.specs.Prelude.{◌≡◌, [], IfOk};
 ghost use Rattle.hcl_types.specs.Tables.{IsSound};
-ghost use Rattle.fault_report.specs.Told.{HasTextDesign, ReportsHcl, rows_in};
+ghost use Rattle.hcl_design.specs.Designs.{HasDesign};
+ghost use Rattle.fault_report.specs.Told.{ReportsHcl, rows_in};
 
 use crate::binding_faults::{Source, count_unknown, datapath_fault, table_faults};
 use crate::facts::{Fault, Report, Tables};
@@ -38,7 +39,7 @@ fn faults_over<'a>(
     requires seq { IsSound tables.now.seq.rows }
     requires seq_plus { IsSound tables.now.seq_plus.rows }
     requires pipe { IsSound tables.now.pipe.rows }
-    ensures { IfOk result (λ faults. faults.items ≡ [] → HasTextDesign (rows_in tables.now datapath) text.now) }
+    ensures { IfOk result (λ faults. faults.items ≡ [] → HasDesign (rows_in tables.now datapath) text.now) }
 {
     let source = Source {
         text,
@@ -90,7 +91,7 @@ fn faults_of_asked<'a>(
     requires seq { IsSound tables.now.seq.rows }
     requires seq_plus { IsSound tables.now.seq_plus.rows }
     requires pipe { IsSound tables.now.pipe.rows }
-    ensures { IfOk result (λ faults. faults.items ≡ [] → HasTextDesign (rows_in tables.now asked) text.now) }
+    ensures { IfOk result (λ faults. faults.items ≡ [] → HasDesign (rows_in tables.now asked) text.now) }
 {
     let other = nearest(text, tokens, tables);
     let is_other = lacks(text, tokens, tables, asked) > 0

@@ -1,7 +1,8 @@
 //! The faults of object text, as sentences.
-ghost use Rattle.std.specs.Prelude.{◌≡◌, IfOk};
+ghost use Rattle.std.specs.Prelude.{◌≡◌, ◌↔◌, [], true, IfOk};
 ghost use Rattle.y86_base.specs.Image.{IsSize};
 ghost use Rattle.yo_object.specs.ObjectText.{object_of};
+ghost use Rattle.fault_report.specs.ObjectBytes as bytes;
 ghost use Rattle.fault_report.specs.Told.{IsTold, ReportsObject};
 
 use crate::binding_faults::{NOTHING_SAID, Saying};
@@ -174,7 +175,9 @@ fn refused_lines(
 }
 
 /// The fault of a text that is accepted, but puts no byte anywhere; none if it puts one.
-fn empty_text(alloc: Global, text: &[u8], size: u64) -> Result<Vec<Fault>, Memory> {
+fn empty_text(alloc: Global, text: &[u8], size: u64) -> Result<Vec<Fault>, Memory>
+    ensures { IfOk result (λ faults. (faults.items ≡ []) ↔ (bytes.puts_bytes text.now ≡ true)) }
+{
     let mut out = Vec::new(alloc);
     if !has_bytes(text) {
         let line = statement_line(text);
@@ -184,14 +187,24 @@ fn empty_text(alloc: Global, text: &[u8], size: u64) -> Result<Vec<Fault>, Memor
     Ok(out)
 }
 
+/// Whether a line puts a byte.
+fn puts_byte(line: &[u8]) -> bool
+    ensures { result ≡ bytes.puts_byte line.now }
+{
+    match line_digits(line) {
+        Some(digits) => !digits.bytes.is_empty(),
+        None => false,
+    }
+}
+
 /// Whether any line puts a byte.
-pub fn has_bytes(text: &[u8]) -> bool {
+pub fn has_bytes(text: &[u8]) -> bool
+    ensures { result ≡ bytes.puts_bytes text.now }
+{
     let mut rest = text;
     'lines: while let Some((line, behind)) = first_line(rest) {
-        if let Some(digits) = line_digits(line) {
-            if !digits.bytes.is_empty() {
-                return true;
-            }
+        if puts_byte(line) {
+            return true;
         }
         rest = behind;
     }
@@ -219,7 +232,7 @@ fn statement_line(text: &[u8]) -> u64 {
 /// statement if the text is a source. Without faults it is accepted, and puts at least one byte.
 pub fn object_report(alloc: Global, text: &[u8], size: u64) -> Result<Report, Memory>
     requires { IsSize size }
-    ensures { IfOk result (λ report. ReportsObject (object_of text.now size) report.faults) }
+    ensures { IfOk result (λ report. ReportsObject text.now (object_of text.now size) report.faults) }
 {
     let faults = match load(alloc, text, size) {
         Ok(_) => empty_text(alloc, text, size)?,

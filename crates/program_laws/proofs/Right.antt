@@ -24,7 +24,8 @@ use Rattle.y86_words.specs.Wording.{IsInRange}
 use Rattle.y86_call_laws.specs.CheckedRuns.{HasAccepted}
 use Rattle.cli_runs.specs.Answers.{PipeAnswers, checked_plan, pipe_plan, psim_plan, yis_plan, yis_run}
 use Rattle.cli_plans.specs.Stages.{image_of_text, run_status}
-use Rattle.cli_plans.specs.Designs.{IsDesign, RefusesDesign}
+use Rattle.hcl_design.specs.Designs.{IsDesign}
+use Rattle.cli_plans.specs.Designs.{RefusesDesign}
 use Rattle.cli_plans.specs.PlanFollowing.{CallStates}
 use Rattle.cli_runs.specs.PipeRuns.{end_of, ran_line, run_text}
 use Rattle.cli_plans.specs.Known.{Known}

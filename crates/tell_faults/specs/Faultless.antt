@@ -1,7 +1,9 @@
 -- What status 0 of `fault` says of a file.
-use Rattle.std.specs.Prelude.{◌≡◌, ℕ, nat_eq, List, Option, Some, None, Ok, codes, if◌then◌else◌}
+use Rattle.std.specs.Prelude.{◌≡◌, ℕ, nat_eq, true, List, Option, Some, None, Ok, codes, if◌then◌else◌}
 use Rattle.std.specs.List.{ends_with}
-use Rattle.fault_report.specs.Told.{HasTextDesign, IsWanted}
+use Rattle.fault_report.specs.ObjectBytes.{puts_bytes}
+use Rattle.fault_report.specs.Told.{IsWanted}
+use Rattle.hcl_design.specs.Designs.{HasDesign}
 use Rattle.hcl_types.specs.declared.table.Datapath.{Datapath}
 use Rattle.seq_plus.specs.Datapaths.{table_rows}
 use Rattle.tell_faults.specs.declared.faulty.Kind.{Kind}
@@ -21,11 +23,11 @@ kind_of name (Some path) = Hcl
 kind_of name None = kind_by_name name
 
 -- an HCL text is a design for the datapath that is asked for, or for some datapath if none is; the assembler accepts a
--- source; an object text is loaded
+-- source; an object text is loaded, and puts a byte
 abbrev pub IsFaultlessText : Kind → FaultQuestion → List ℕ → Type 0
-IsFaultlessText Hcl asked text = (path : Datapath) × IsWanted asked.path path × HasTextDesign (table_rows path) text
+IsFaultlessText Hcl asked text = (path : Datapath) × IsWanted asked.path path × HasDesign (table_rows path) text
 IsFaultlessText Assembly asked text = (lines : List Line) × (assembled asked.variant text asked.size ≡ Ok lines)
-IsFaultlessText Object asked text = (image : List ℕ) × (object_of text asked.size ≡ Ok image)
+IsFaultlessText Object asked text = (image : List ℕ) × (object_of text asked.size ≡ Ok image) × (puts_bytes text ≡ true)
 
 -- the text of a file with this name
 abbrev pub IsFaultlessFile : List ℕ → FaultQuestion → List ℕ → Type 0

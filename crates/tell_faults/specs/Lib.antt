@@ -1,4 +1,3 @@
-pub mod Designs
 pub mod Faultless
 pub mod Faults
 pub mod Stops

@@ -1,7 +1,7 @@
 //! The design of an HCL text, or why there is none.
 ghost use Rattle.std.specs.Prelude.{IfOk};
 ghost use Rattle.hcl_types.specs.Tables.{IsBoundDesign, IsSound};
-ghost use Rattle.tell_faults.specs.Designs.{HasDesignOver};
+ghost use Rattle.hcl_design.specs.Designs.{IsDesign};
 ghost use Rattle.seq_plus.specs.Datapaths.{table_rows};
 
 use crate::datapaths::table_of;
@@ -25,7 +25,7 @@ pub enum NoDesign {
 /// The design of an HCL text over a table.
 fn design_over(alloc: Global, source: &[u8], table: Table) -> Result<BoundDesign, NoDesign>
     requires { IsSound table.rows }
-    ensures design { IfOk result (λ bound. HasDesignOver table.rows source.now bound.ordered.design.terms) }
+    ensures design { IfOk result (λ bound. IsDesign table.rows source.now bound.ordered.design.terms) }
     ensures ordered { IfOk result (IsBoundDesign table.rows) }
 {
     let file = match read(alloc, source) {
@@ -58,7 +58,7 @@ fn design_over(alloc: Global, source: &[u8], table: Table) -> Result<BoundDesign
 
 /// The design of an HCL text for a datapath.
 pub fn design_of(alloc: Global, path: Datapath, source: &[u8]) -> Result<BoundDesign, NoDesign>
-    ensures design { IfOk result (λ bound. HasDesignOver (table_rows path) source.now bound.ordered.design.terms) }
+    ensures design { IfOk result (λ bound. IsDesign (table_rows path) source.now bound.ordered.design.terms) }
     ensures ordered { IfOk result (IsBoundDesign (table_rows path)) }
 {
     match table_of(alloc, path) {

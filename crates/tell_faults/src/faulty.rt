@@ -1,7 +1,8 @@
 //! `fault`: every fault of a file, in sentences or as JSON.
 ghost use Rattle.std.specs.Prelude.{◌≡◌, ◌↔◌, [], IfOk};
 ghost use Rattle.y86_base.specs.Image.{IsSize};
-ghost use Rattle.fault_report.specs.Told.{IsWanted, HasTextDesign};
+ghost use Rattle.fault_report.specs.Told.{IsWanted};
+ghost use Rattle.hcl_design.specs.Designs.{HasDesign};
 ghost use Rattle.hcl_types.specs.declared.table.Datapath.{Datapath};
 ghost use Rattle.seq_plus.specs.Datapaths.{table_rows};
 ghost use Rattle.tell_faults.specs.Faultless.{IsFaultlessFile, IsFaultlessText};
@@ -73,7 +74,7 @@ fn kind_of(file: &str, path: Option<Datapath>) -> Kind
 /// The faults of an HCL text, for the datapath that is asked for, or for the one whose names fit best.
 #[tactic(auto, using(crate::proofs::Faultless::hcl_accepted))]
 pub fn hcl_faults_of(alloc: Global, text: &[u8], asked: Option<Datapath>) -> Result<Report, Memory>
-    ensures { IfOk result (λ report. report.faults ≡ [] → (path : Datapath) × IsWanted asked path × HasTextDesign (table_rows path) text.now) }
+    ensures { IfOk result (λ report. report.faults ≡ [] → (path : Datapath) × IsWanted asked path × HasDesign (table_rows path) text.now) }
 {
     let tables = tables(alloc)?;
     hcl_report(alloc, text, &tables, asked)

@@ -2,13 +2,13 @@
 use Rattle.std.specs.Prelude.{ℕ, ◌≡◌, List, Ok, true}
 use Rattle.cosimulation.specs.Agreement.{FindsNone}
 use Rattle.dp_signals.specs.PipeTable.{pipe_rows}
+use Rattle.hcl_design.specs.Designs.{IsDesign}
 use Rattle.hcl_types.specs.Tables.{IsOrderOf}
 use Rattle.hcl_types.specs.declared.term.Term.{Term}
 use Rattle.run_report.specs.Outcome.{IsOutcome, is_covered, is_same}
 use Rattle.run_report.specs.declared.outcome.Outcome.{Outcome}
 use Rattle.y86_base.specs.declared.parts.Variant.{Variant}
 use Rattle.yo_object.specs.ObjectText.{object_of}
-use Rattle.tell_faults.specs.Designs.{HasDesign}
 
 -- The outcome is that of the image of an object text under the design of an HCL text. If the theorem covers the run,
 -- nothing differs.
@@ -16,7 +16,7 @@ pub record IsRun (v : Variant) (source object : List ℕ) (size limit : ℕ) (o 
   pub terms : List Term
   pub order : List ℕ
   pub image : List ℕ
-  pub design : HasDesign source terms
+  pub design : IsDesign pipe_rows source terms
   pub ordered : IsOrderOf pipe_rows terms order
   pub loads : object_of object size ≡ Ok image
   pub outcome : IsOutcome v terms order image limit o

@@ -158,7 +158,7 @@ fn fault_command<'a>(alloc: Global) -> Result<Command<'a>, AllocError> {
     let path = Arg::new(alloc, "processor")
         .action(ArgAction::Set)
         .value_parser(PATHS.as_slice())
-        .help("The processor that an HCL file is for");
+        .help("The processor that the file is for; it is then read as HCL, whatever its name");
     Command::new(alloc, "fault")
         .about("Report the faults of a file, and what to do about each")
         .arg(any)?

@@ -20,7 +20,8 @@ use Rattle.cli_runs.specs.Big.{BigAnswers}
 use Rattle.cli_checks.specs.Checks.{PipeChecks, SeqChecks}
 use Rattle.cli_verdicts.specs.Verdicts.{AnswersYesPipe, RefusesPipe}
 use Rattle.seq_plus.specs.Datapaths.{rows_of}
-use Rattle.cli_plans.specs.Designs.{IsDesign, RefusesDesign, RefusesHcl}
+use Rattle.hcl_design.specs.Designs.{IsDesign}
+use Rattle.cli_plans.specs.Designs.{RefusesDesign, RefusesHcl}
 use Rattle.cli_plans.specs.PlanFollowing.{CallStates}
 use Rattle.cli_plans.specs.Plan.{Answer, Plan, HasContents, done, value_in}
 use Rattle.y86_cli.specs.CallContract.{MeetsContract}
@@ -32,7 +33,8 @@ use Rattle.y86_words.specs.Forms.{Command}
 use Rattle.y86_answer_laws.specs.OneAnswer.{AreYes, HasOneAnswer, HasOneRefusal, SameAnswers}
 use Rattle.y86_answer_laws.proofs.Checked.{accepts_pipe_one, control_apart, control_one, pipe_apart, pipe_check_one, refuses_pipe_one, seq_check_one}
 use Rattle.y86_answer_laws.proofs.Counted.{aigrun_one}
-use Rattle.y86_answer_laws.proofs.Designs.{design_apart, design_belongs, design_one, design_ordered, hcl_one, read_apart, refusal_one}
+use Rattle.y86_answer_laws.proofs.Designs.{design_belongs, design_ordered, hcl_one, read_apart, refusal_one}
+use Rattle.y86_call_laws.proofs.Bigs.{not_refused, one_design}
 use Rattle.y86_answer_laws.proofs.Plans.{after_one, answers_one, gives_one, gives_yes, reads_one, reads_yes, says_one, says_yes}
 use Rattle.y86_answer_laws.proofs.Runs.{big_one, pipe_answers_one, seq_answers_one}
 use Rattle.y86_answer_laws.proofs.Sampled.{sample_one}
@@ -68,7 +70,7 @@ pub ssim_plan_one : (which : SequentialDatapath) (name object : List ℕ) (size 
 unfolding ssim_plan
 ssim_plan_one which name object size limit v = reads_one _ _ _ (λ text.
     gives_one (IsDesign (rows_of which) text) (RefusesDesign name (rows_of which) text) _
-    (design_one (rows_of which) text) (refusal_one (rows_of which) text name) (design_apart (rows_of which) text name)
+    (one_design (rows_of which) text) (refusal_one (rows_of which) text name) (not_refused name (rows_of which) text)
     (λ terms d. let o = design_ordered (rows_of which) text (sound_of which) terms d in
     seq_plan_one which terms object size limit v o.0 (design_belongs (rows_of which) text (sound_of which) terms d) o.1))
 
@@ -76,7 +78,7 @@ pub check_seq_plan_one : (which : SequentialDatapath) (name : List ℕ) (v : Var
 unfolding check_seq_plan
 check_seq_plan_one which name v = reads_one _ _ _ (λ text.
     gives_one (IsDesign (rows_of which) text) (RefusesDesign name (rows_of which) text) _
-    (design_one (rows_of which) text) (refusal_one (rows_of which) text name) (design_apart (rows_of which) text name)
+    (one_design (rows_of which) text) (refusal_one (rows_of which) text name) (not_refused name (rows_of which) text)
     (λ terms d. let o = design_ordered (rows_of which) text (sound_of which) terms d in
     says_one (SeqChecks which name v terms) (seq_check_one which name v terms o.0 o.1)))
 
@@ -86,7 +88,7 @@ pipe_stage : (name text : List ℕ) (next : List Term → Plan) →
     HasOneAnswer (value_in (IsDesign pipe_rows text) (RefusesDesign name pipe_rows text) next)
 pipe_stage name text next one =
     gives_one (IsDesign pipe_rows text) (RefusesDesign name pipe_rows text) next
-    (design_one pipe_rows text) (refusal_one pipe_rows text name) (design_apart pipe_rows text name)
+    (one_design pipe_rows text) (refusal_one pipe_rows text name) (not_refused name pipe_rows text)
     (λ terms d. let o = design_ordered pipe_rows text pipe_sound terms d in one terms o.0 (design_belongs pipe_rows text pipe_sound terms d) o.1)
 
 pipe_plan_one : (verdict : List ℕ) (terms : List Term) (object : List ℕ) (size limit : ℕ) (trace : Bool) (v : Variant) (ids : List ℕ) → IsBound pipe_rows terms →
@@ -137,7 +139,7 @@ yes_stage : (name text : List ℕ) (next : List Term → Plan) → ((terms : Lis
     HasOneRefusal (value_in (IsDesign pipe_rows text) (RefusesDesign name pipe_rows text) next)
 yes_stage name text next one =
     gives_yes (IsDesign pipe_rows text) (RefusesDesign name pipe_rows text) next
-    (design_one pipe_rows text) (refusal_one pipe_rows text name) (design_apart pipe_rows text name)
+    (one_design pipe_rows text) (refusal_one pipe_rows text name) (not_refused name pipe_rows text)
     (λ terms d. let o = design_ordered pipe_rows text pipe_sound terms d in one terms o.0 o.1)
 
 both_yes : (a b : Answer) (x y : List ℕ) → a ≡ done 0 x → b ≡ done 0 y → AreYes a b

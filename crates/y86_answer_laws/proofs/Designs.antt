@@ -10,10 +10,11 @@ use Rattle.hcl_types.specs.Tables.{IsBound, IsOrderOf, IsSound, needs, row_names
 use Rattle.hcl_types.specs.declared.table.Row.{Row}
 use Rattle.hcl_types.specs.declared.term.Term.{Term}
 use Rattle.hcl_binding.proofs.Designs.{design_bound}
-use Rattle.hcl_order.specs.Dependence.{Depends, FirstCycle}
-use Rattle.hcl_laws.proofs.Cycles.{cycle_is_one, one_first_cycle}
+use Rattle.hcl_order.specs.Dependence.{FirstCycle}
+use Rattle.hcl_laws.proofs.Cycles.{one_first_cycle}
 use Rattle.hcl_laws.proofs.Orders.{order_there}
-use Rattle.cli_plans.specs.Designs.{IsDesign, RefusesBinding, RefusesDesign, RefusesHcl, RefusesOrder}
+use Rattle.hcl_design.specs.Designs.{IsDesign}
+use Rattle.cli_plans.specs.Designs.{RefusesBinding, RefusesDesign, RefusesHcl, RefusesOrder}
 use Rattle.cli_plans.specs.Lines.{bind_fault_line, cycle_line, hcl_fault_line, names_at}
 use Rattle.cli_plans.specs.Plan.{Answer, refused}
 
@@ -31,15 +32,12 @@ module _ (rows : List Row) (text : List ℕ) where
   same_bound : (f g : File) → ReadsAs text f → ReadsAs text g → bound rows f.items ≡ bound rows g.items
   same_bound f g h k = ap (λ (x : File). bound rows x.items) (at_most_one_file text f g h k)
 
-  pub design_one : (s t : List Term) → IsDesign rows text s → IsDesign rows text t → s ≡ t
-  design_one s t h k = cc (h.binds, same_bound h.file k.file h.reads k.reads, k.binds)
-
   pub design_belongs : IsSound rows → (terms : List Term) → IsDesign rows text terms → IsBound rows terms
-  design_belongs sound terms d = design_bound rows sound.apart d.file.items terms d.binds
+  design_belongs sound terms d = design_bound rows sound.apart d.file.items terms d.design.binds
 
   -- a design has an order
   pub design_ordered : IsSound rows → (terms : List Term) → IsDesign rows text terms → (ids : List ℕ) × IsOrderOf rows terms ids
-  design_ordered sound terms d = order_there rows terms sound (design_belongs sound terms d) d.acyclic
+  design_ordered sound terms d = order_there rows terms sound (design_belongs sound terms d) d.design.acyclic
 
   binding_one : (name : List ℕ) (a b : Answer) → RefusesBinding name rows text a → RefusesBinding name rows text b → a ≡ b
   binding_one name a b h k =
@@ -65,10 +63,3 @@ module _ (rows : List Row) (text : List ℕ) where
   refusal_one name a b (inr (inl h)) (inr (inr k)) = absurd (binding_or_order name a b h k)
   refusal_one name a b (inr (inr h)) (inr (inl k)) = absurd (binding_or_order name b a k h)
   refusal_one name a b (inr (inr h)) (inr (inr k)) = order_one name a b h k
-
-  pub design_apart : (name : List ℕ) (terms : List Term) (a : Answer) → IsDesign rows text terms → RefusesDesign name rows text a → ⊥
-  design_apart name terms a d (inl h) = read_apart name text d.file a d.reads h
-  design_apart name terms a d (inr (inl h)) = absurd (cc (d.binds, same_bound d.file h.file d.reads h.reads, h.binds))
-  design_apart name terms a d (inr (inr h)) =
-      let same : h.terms ≡ terms = cc (h.binds, same_bound h.file d.file h.reads d.reads, d.binds) in
-      cycle_is_one (needs_of (needs rows h.terms)) h.cycle h.first (subst (λ t. (n : ℕ) → Depends (needs_of (needs rows t)) n n → ⊥) (sym same) d.acyclic)

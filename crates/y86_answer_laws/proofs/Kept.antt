@@ -20,7 +20,7 @@ use Rattle.cli_obligations.specs.Answers.{certificate_plan, certify_pipe_plan, r
 use Rattle.cli_plans.specs.Stages.{hcl_limit}
 use Rattle.y86_cli.specs.Answers.{plan_in}
 use Rattle.cli_obligations.specs.Certified.{Rechecks, cert_fault_line, cert_limit}
-use Rattle.cli_plans.specs.Designs.{IsDesign}
+use Rattle.hcl_design.specs.Designs.{IsDesign}
 use Rattle.cli_plans.specs.PlanFollowing.{CallStates, SinkState}
 use Rattle.cli_plans.specs.Known.{Known}
 use Rattle.cli_plans.specs.Plan.{IsAnswerOf, Answer, HasContents, refused}
@@ -29,7 +29,8 @@ use Rattle.cli_plans.specs.Calls.{WroteError}
 use Rattle.y86_call_laws.proofs.Agreement.{control_high, design_high, high}
 use Rattle.y86_answer_laws.specs.OneAnswer.{KeptCertificate}
 use Rattle.y86_answer_laws.proofs.Checked.{control_apart}
-use Rattle.y86_answer_laws.proofs.Designs.{design_apart, design_one, design_ordered}
+use Rattle.y86_answer_laws.proofs.Designs.{design_ordered}
+use Rattle.y86_call_laws.proofs.Bigs.{not_refused, one_design}
 
 -- ---- what `--cert` wrote
 
@@ -116,15 +117,15 @@ module _ (name cert : List ℕ) (v : Variant) (text bytes : List ℕ) (w : Writt
       DeliversOnBoth a out_before out_after err_before err_after status → status ≢ 4 → KeptCertificate v text cert out_before out_after err_before err_after status
   unfolding recheck_plan certificate_plan
   kept_by a out_before out_after err_before err_after status (inl long) shows four = absurd (let s = w.short in omega (arith, long.0, s))
-  kept_by a out_before out_after err_before err_after status (inr (short, inr refuses)) shows four = absurd (design_apart pipe_rows text name w.terms a w.design refuses)
+  kept_by a out_before out_after err_before err_after status (inr (short, inr refuses)) shows four = absurd (not_refused name pipe_rows text w.terms a w.design refuses)
   kept_by a out_before out_after err_before err_after status (inr (short, inl (terms, design, inr refuses))) shows four =
       let o = design_ordered pipe_rows text pipe_sound terms design in
-      let same : w.terms ≡ terms = design_one pipe_rows text w.terms terms w.design design in
+      let same : w.terms ≡ terms = one_design pipe_rows text w.terms terms w.design design in
       absurd (control_apart name pipe_rows terms o.0 o.1 a refuses w.accepted.settings.atoms (subst (λ (ts : List Term). AreAtoms pipe_rows ts w.accepted.settings.atoms) same w.accepted.settings.are))
   kept_by a out_before out_after err_before err_after status (inr (short, inl (terms, design, inl (atoms, are, inl long)))) shows four = absurd (omega (arith, long.0, small))
   kept_by a out_before out_after err_before err_after status (inr (short, inl (terms, design, inl (atoms, are, inr (fits, answers))))) shows four =
       outcome a out_before out_after err_before err_after status shows four
-      (subst (λ (ts : List Term). Rechecks cert v ts bytes a) (design_one pipe_rows text terms w.terms design w.design) answers)
+      (subst (λ (ts : List Term). Rechecks cert v ts bytes a) (one_design pipe_rows text terms w.terms design w.design) answers)
 
 own_certificate : (name cert : List ℕ) (v : Variant) (text bytes : List ℕ) (call later : CallStates) (status : ℕ) →
     MeetsContract (Some (certify_pipe name v)) call 0 →

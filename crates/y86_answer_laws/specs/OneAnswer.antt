@@ -10,7 +10,7 @@ use Rattle.pipe_motion.specs.declared.settings.Settings.{Settings}
 use Rattle.wb_io.specs.Sinks.{Appended}
 use Rattle.y86_base.specs.declared.parts.Variant.{Variant}
 use Rattle.cli_obligations.specs.Certified.{cert_fault_line}
-use Rattle.cli_plans.specs.Designs.{IsDesign}
+use Rattle.hcl_design.specs.Designs.{IsDesign}
 use Rattle.cli_plans.specs.PlanFollowing.{CallStates, SinkState}
 use Rattle.cli_plans.specs.Plan.{IsAnswerOf, Answer, Plan}
 use Rattle.cli_plans.specs.Calls.{WroteError}

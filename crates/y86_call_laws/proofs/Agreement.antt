@@ -22,7 +22,8 @@ use Rattle.cli_checks.specs.Answers.{check_pipe_plan, check_seq_plan}
 use Rattle.cli_plans.specs.Stages.{image_of_text}
 use Rattle.cli_verdicts.specs.Verdicts.{AnswersYesPipe, RefusesControl}
 use Rattle.seq_plus.specs.Datapaths.{rows_of}
-use Rattle.cli_plans.specs.Designs.{IsDesign, RefusesDesign}
+use Rattle.hcl_design.specs.Designs.{IsDesign}
+use Rattle.cli_plans.specs.Designs.{RefusesDesign}
 use Rattle.cli_plans.specs.PlanFollowing.{CallStates, SinkState}
 use Rattle.y86_words.specs.Forms.{check_pipe, check_plus, check_seq, form_of, psim}
 use Rattle.cli_plans.specs.Lines.{object_fault_line}

@@ -27,7 +27,8 @@ use Rattle.y86_words.specs.Wording.{IsInRange}
 use Rattle.y86_call_laws.specs.CheckedRuns.{HasAccepted}
 use Rattle.cli_runs.specs.Answers.{big_plan}
 use Rattle.cli_runs.specs.Big.{BigAnswers, AnsweredSame, big_line, big_status}
-use Rattle.cli_plans.specs.Designs.{IsDesign, RefusesDesign}
+use Rattle.hcl_design.specs.Designs.{IsDesign}
+use Rattle.cli_plans.specs.Designs.{RefusesDesign}
 use Rattle.cli_plans.specs.PlanFollowing.{CallStates}
 use Rattle.cli_plans.specs.Known.{Known}
 use Rattle.cli_plans.specs.Plan.{Answer, MayBeAnswer, done}
@@ -38,7 +39,7 @@ use Rattle.y86_cli.specs.CallContract.{MeetsContract}
 pub one_design : (rows : List Row) (text : List ℕ) (terms others : List Term) → IsDesign rows text terms → IsDesign rows text others → terms ≡ others
 one_design rows text terms others d e =
     let one : bound rows d.file.items ≡ bound rows e.file.items = ap (λ (f : File). bound rows f.items) (at_most_one_file text d.file e.file d.reads e.reads) in
-    let same : Result.Ok terms ≡ Ok others = sym d.binds ∙ (one ∙ e.binds) in
+    let same : Result.Ok terms ≡ Ok others = sym d.design.binds ∙ (one ∙ e.design.binds) in
     cc (same)
 
 a_cycle : (needed : ℕ → List ℕ) (cycle : List ℕ) → FirstCycle needed cycle → ((n : ℕ) → Depends needed n n → ⊥) → ⊥
@@ -49,11 +50,11 @@ pub not_refused : (name : List ℕ) (rows : List Row) (text : List ℕ) (terms :
 not_refused name rows text terms a d (inl (fault, is, told)) = file_has_no_fault text d.file fault d.reads is
 not_refused name rows text terms a d (inr (inl unbound)) =
     let one : bound rows d.file.items ≡ bound rows unbound.file.items = ap (λ (f : File). bound rows f.items) (at_most_one_file text d.file unbound.file d.reads unbound.reads) in
-    absurd (cc (d.binds, one, unbound.binds))
+    absurd (cc (d.design.binds, one, unbound.binds))
 not_refused name rows text terms a d (inr (inr unordered)) =
     let one : bound rows d.file.items ≡ bound rows unordered.file.items = ap (λ (f : File). bound rows f.items) (at_most_one_file text d.file unordered.file d.reads unordered.reads) in
-    let same : terms ≡ unordered.terms = cc (d.binds, one, unordered.binds) in
-    a_cycle (needs_of (needs rows unordered.terms)) unordered.cycle unordered.first (subst (λ (x : List Term). (n : ℕ) → Depends (needs_of (needs rows x)) n n → ⊥) same d.acyclic)
+    let same : terms ≡ unordered.terms = cc (d.design.binds, one, unordered.binds) in
+    a_cycle (needs_of (needs rows unordered.terms)) unordered.cycle unordered.first (subst (λ (x : List Term). (n : ℕ) → Depends (needs_of (needs rows x)) n n → ⊥) same d.design.acyclic)
 
 -- ---- `big` for an accepted file
 

@@ -20,7 +20,7 @@ use Rattle.cli_obligations.specs.Certified.{HasCertified}
 use Rattle.cli_verdicts.specs.Verdicts.{AnswersNoPipe}
 use Rattle.seq_plus.specs.Datapaths.{rows_of}
 use Rattle.seq_check.specs.Verdicts.{Accepts, Refines}
-use Rattle.cli_plans.specs.Designs.{IsDesign}
+use Rattle.hcl_design.specs.Designs.{IsDesign}
 use Rattle.cli_plans.specs.PlanFollowing.{SinkState}
 use Rattle.cli_plans.specs.Known.{Known}
 use Rattle.cli_plans.specs.Plan.{Answer}

@@ -10,7 +10,8 @@ use Rattle.pipe_stage_text.specs.declared.observer.CycleRange.{CycleRange}
 use Rattle.y86_base.specs.declared.parts.Stat.{Stat}
 use Rattle.y86_base.specs.declared.parts.Variant.{Variant}
 use Rattle.cli_plans.specs.Stages.{file_limit, hcl_limit, image_of_text, run_status}
-use Rattle.cli_plans.specs.Designs.{IsDesign, RefusesDesign}
+use Rattle.hcl_design.specs.Designs.{IsDesign}
+use Rattle.cli_plans.specs.Designs.{RefusesDesign}
 use Rattle.cli_plans.specs.Plan.{Answer, Plan, value_from, done, value_in, reads, answer_in}
 use Rattle.y86_isa.specs.Machine.{start}
 use Rattle.yo_object.specs.ObjectText.{object_of}

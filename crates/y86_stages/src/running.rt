@@ -5,7 +5,8 @@ ghost use Rattle.y86_base.specs.Image.{IsSize};
 ghost use Rattle.pipe_stage_text.specs.Listed.{listed};
 ghost use Rattle.seq_plus.specs.Datapaths.{table_rows};
 ghost use Rattle.cli_plans.specs.Stages.{hcl_limit};
-ghost use Rattle.cli_plans.specs.Designs.{IsDesign, RefusesDesign};
+ghost use Rattle.hcl_design.specs.Designs.{IsDesign};
+ghost use Rattle.cli_plans.specs.Designs.{RefusesDesign};
 ghost use Rattle.cli_plans.specs.PlanFollowing.{FollowsPlanOver, IsReadResultIn, OnFiles, WritesAnswerOn};
 ghost use Rattle.y86_stages.specs.ShowAnswers.{ShownAnswers, Shows, object_plan, stages_plan};
 

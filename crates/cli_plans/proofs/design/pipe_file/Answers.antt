@@ -1,7 +1,8 @@
 use Rattle.std.proofs.Common.{List}
 use Rattle.dp_signals.specs.PipeTable.{pipe_rows}
 use Rattle.hcl_types.specs.declared.term.Term.{Term}
-use Rattle.cli_plans.specs.Designs.{IsDesign, RefusesDesign}
+use Rattle.hcl_design.specs.Designs.{IsDesign}
+use Rattle.cli_plans.specs.Designs.{RefusesDesign}
 use Rattle.hcl_types.specs.declared.table.BoundDesign.{BoundDesign}
 use Rattle.cli_plans.proofs.Does.{stage_read}
 use Rattle.cli_plans.proofs.design.pipe_file.Goals as goal

@@ -1,7 +1,8 @@
 use Rattle.std.proofs.Common.{List}
 use Rattle.hcl_types.specs.declared.term.Term.{Term}
 use Rattle.seq_plus.specs.Datapaths.{rows_of}
-use Rattle.cli_plans.specs.Designs.{IsDesign, RefusesDesign}
+use Rattle.hcl_design.specs.Designs.{IsDesign}
+use Rattle.cli_plans.specs.Designs.{RefusesDesign}
 use Rattle.hcl_types.specs.declared.table.BoundDesign.{BoundDesign}
 use Rattle.cli_plans.proofs.Does.{stage_read}
 use Rattle.cli_plans.proofs.design.seq_file.Goals as goal
