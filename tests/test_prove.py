@@ -64,6 +64,22 @@ def test_words_that_are_none(repository):
     same((status, out, err.startswith("usage: prove ")), (2, "", True))
 
 
+def test_a_program_by_name(repository):
+    same(repository.run([repository.prove, "y86"])[0], 0)
+    same(repository.run([repository.prove, "y86"]), (0, "", BUILT))
+
+
+@pytest.mark.parametrize("words, why", (
+    (("y86", "y87"), "there is no program y87; the programs are y86"),
+    (("y86", "--page", "y86.html"), "--to and --page need all programs"),
+    (("--to", "class", "y86"), "--to and --page need all programs"),
+    (("--unproved-page", "y86.html", "y86"), "--unproved-page goes with no other option"),
+))
+def test_programs_that_cannot_be_proved_so(words, why, repository):
+    status, out, err = repository.run([repository.prove, *words])
+    same((status, out, err.splitlines()[-1]), (2, "", f"prove: error: {why}"))
+
+
 @pytest.mark.parametrize("crate", ("right", "high"))
 def test_a_crate_without_a_proof(crate, repository):
     repository.write(f"crates/{crate}/src/lib.rt", "no proof")
