@@ -458,7 +458,8 @@ ARCHLAB = [
     (("archlab", "twice.ys", "std.hcl"), 1, b"", b"twice.ys: with the labels `lab_..` and the data that follow it: LabelTwice\n"),
     (("archlab", "ncopy_iaddq.ys", "std.hcl"), 1, b"", b"the function, line 8: Syntax (`iaddq` needs `--full`)\n"),
     (("archlab", "ncopy.ys", "nofile.hcl"), 3, b"", b"read fault nofile.hcl\n"),
-    (("archlab", "ncopy.ys", "seq.hcl"), 5, b"", b"seq.hcl: Unknown icode\n"),
+    (("archlab", "ncopy.ys", "seq.hcl"), 5, b"",
+        b"seq.hcl:6:6: This is a file for SEQ, not for PIPE: SEQ has all its names, and PIPE lacks 17 of them, `icode` first.\n"),
 ]
 # (its first statement is on line 3; as object text it would be an empty program)
 SOURCE = b"ncopy.ys:3: This is a source and no object file: assemble it by `yas` first. As an object file it puts no byte anywhere.\n"

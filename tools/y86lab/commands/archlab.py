@@ -12,6 +12,7 @@ import tempfile
 from dataclasses import dataclass
 from typing import Optional
 
+from .. import tell
 from ..arguments import Command, add_full
 from ..calls import Answer, Limits, Programs, full_flag
 from ..copy_loop import ALL_LENGTHS, LARGER, MOST_BYTES, CopyLoop, score
@@ -53,7 +54,8 @@ def run(arguments: argparse.Namespace, programs: Programs) -> int:
         verdict = programs.check("pipe", path, arguments.full)
         if verdict.status is None or verdict.status not in (DONE, REFUSED):
             status = OUT_OF_TIME if verdict.status is None else verdict.status
-            raise LabError(verdict.err.strip() or f"{path}: the check gives no answer", status)
+            said = tell.reason(programs, verdict, path, full_flag(arguments.full), "pipe")
+            raise LabError(said or f"{path}: the check gives no answer", status)
         print(f"{path}: {verdict.out.splitlines()[0]}", flush=True)
         faults = copy_loop.faults(path, ALL_LENGTHS, MOST_FAULTS)
     for fault in faults:
