@@ -202,7 +202,7 @@ def proved(here, programs, room):
     sums = {it: sources(here, it, "sum")[1] for it in programs}
     copied(here, crates, room)
     os.makedirs(f"{here}/crates/{programs[0]}/out", exist_ok=True)
-    tell(f"proving {len(crates)} crates; that takes half an hour to an hour on four processors")
+    tell(f"proving {len(crates)} crates; that takes half an hour to an hour and a half on four processors")
     proof = Proof(room, len(crates), f"{here}/crates/{programs[0]}/out/prove.log")
     proof.run()
     if any(sources(here, it, "sum")[1] != sums[it] for it in programs):
