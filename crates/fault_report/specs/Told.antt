@@ -48,6 +48,8 @@ pub record IsFaultless (tables : Tables) (asked : Option Datapath) (text : List 
   pub same : named ≡ Some path
   pub design : HasDesign (rows_in tables path) text
 
--- an HCL text without a reported fault has none
-abbrev pub ReportsHcl : Tables → Option Datapath → List ℕ → Report → Type 0
-ReportsHcl tables asked text report = report.faults ≡ [] → IsFaultless tables asked text report.datapath
+-- an HCL text has no reported fault exactly if it is a design for the datapath that is asked for, or for some datapath
+-- if none is
+pub record ReportsHcl (tables : Tables) (asked : Option Datapath) (text : List ℕ) (report : Report) : Type 0 where
+  pub faultless : report.faults ≡ [] → IsFaultless tables asked text report.datapath
+  pub accepted : (path : Datapath) → IsWanted asked path → HasDesign (rows_in tables path) text → report.faults ≡ []

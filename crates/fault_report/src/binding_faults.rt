@@ -1,5 +1,5 @@
 //! The faults of a file that is HCL but no design, as sentences.
-ghost use Rattle.std.specs.Prelude.{◌≡◌, ◌≢◌, [], IfOk};
+ghost use Rattle.std.specs.Prelude.{◌≡◌, ◌≢◌, ◌↔◌, [], IfOk};
 ghost use Rattle.std.specs.List.Sorted.{IsPermutation};
 ghost use Rattle.hcl_types.specs.Tables.{IsSound};
 ghost use Rattle.hcl_design.specs.Designs.{HasDesignOf};
@@ -639,6 +639,7 @@ fn refused_faults(
 }
 
 /// The faults of a file over a table: those of binding, or a cycle of names that need each other.
+#[tactic(auto, using(hcl_design::proofs::Faults::none_if_unbound, hcl_design::proofs::Faults::none_if_cyclic))]
 pub fn table_faults(
     alloc: Global,
     source: &Source,
@@ -646,7 +647,7 @@ pub fn table_faults(
     table: &Table,
 ) -> Result<Vec<Fault>, Memory>
     requires { IsSound table.now.rows }
-    ensures { IfOk result (λ faults. faults.items ≡ [] → HasDesignOf table.now.rows file.items) }
+    ensures { IfOk result (λ faults. (faults.items ≡ []) ↔ HasDesignOf table.now.rows file.items) }
 {
     match bind(alloc, &file, table) {
         Err(fault) => match fault.why {

@@ -1,12 +1,14 @@
 //! The faults of an HCL text, for a given datapath or for the one whose names fit best.
-ghost use Rattle.std.specs.Prelude.{◌≡◌, [], IfOk};
+ghost use Rattle.std.specs.Prelude.{◌≡◌, ◌↔◌, [], IfOk, true};
 ghost use Rattle.hcl_types.specs.Tables.{IsSound};
+ghost use Rattle.hcl_types.specs.declared.table.Datapath.{Datapath};
 ghost use Rattle.hcl_design.specs.Designs.{HasDesign};
 ghost use Rattle.fault_report.specs.Told.{ReportsHcl, rows_in};
 
 use crate::binding_faults::{Source, count_unknown, datapath_fault, table_faults};
 use crate::facts::{Fault, Report, Tables};
 use crate::hcl_reading::reading_fault;
+use hcl_design::{NoDesign, design_of};
 use hcl_faults::{TokenAt, stop_in, token_list};
 use hcl_read::read;
 use hcl_types::{Datapath, Table};
@@ -29,6 +31,7 @@ fn table_of(tables: &Tables, datapath: Datapath) -> &Table
 }
 
 /// The faults of a text that the HCL reader accepts, over the names of a datapath.
+#[tactic(auto, using(hcl_design::proofs::Faults::of_file, hcl_design::proofs::Faults::of_text))]
 fn faults_over<'a>(
     alloc: Global,
     text: &'a [u8],
@@ -39,7 +42,7 @@ fn faults_over<'a>(
     requires seq { IsSound tables.now.seq.rows }
     requires seq_plus { IsSound tables.now.seq_plus.rows }
     requires pipe { IsSound tables.now.pipe.rows }
-    ensures { IfOk result (λ faults. faults.items ≡ [] → HasDesign (rows_in tables.now datapath) text.now) }
+    ensures { IfOk result (λ faults. (faults.items ≡ []) ↔ HasDesign (rows_in tables.now datapath) text.now) }
 {
     let source = Source {
         text,
@@ -91,13 +94,15 @@ fn faults_of_asked<'a>(
     requires seq { IsSound tables.now.seq.rows }
     requires seq_plus { IsSound tables.now.seq_plus.rows }
     requires pipe { IsSound tables.now.pipe.rows }
-    ensures { IfOk result (λ faults. faults.items ≡ [] → HasDesign (rows_in tables.now asked) text.now) }
+    ensures { IfOk result (λ faults. (faults.items ≡ []) ↔ HasDesign (rows_in tables.now asked) text.now) }
 {
+    let faults = faults_over(alloc, text, tokens, tables, asked)?;
+    if faults.is_empty() || lacks(text, tokens, tables, asked) == 0 {
+        return Ok(faults);
+    }
     let other = nearest(text, tokens, tables);
-    let is_other = lacks(text, tokens, tables, asked) > 0
-        && lacks(text, tokens, tables, other) == 0;
-    if !is_other {
-        return faults_over(alloc, text, tokens, tables, asked);
+    if lacks(text, tokens, tables, other) > 0 {
+        return Ok(faults);
     }
     let source = Source {
         text,
@@ -110,8 +115,78 @@ fn faults_of_asked<'a>(
     Ok(out)
 }
 
+/// Whether a text is a design for a datapath.
+fn is_design(
+    alloc: Global,
+    text: &[u8],
+    tables: &Tables,
+    datapath: Datapath,
+) -> Result<bool, Memory>
+    requires seq { IsSound tables.now.seq.rows }
+    requires seq_plus { IsSound tables.now.seq_plus.rows }
+    requires pipe { IsSound tables.now.pipe.rows }
+    ensures { IfOk result (λ yes. (yes ≡ true) ↔ HasDesign (rows_in tables.now datapath) text.now) }
+{
+    match design_of(alloc, text, table_of(tables, datapath)) {
+        Ok(_) => Ok(true),
+        Err(NoDesign::Refused) => Ok(false),
+        Err(NoDesign::Memory) => Err(Memory),
+    }
+}
+
+/// The datapath to report on if none is asked for: the first of PIPE, SEQ and SEQ+ for which the text is a design, and
+/// otherwise the one that lacks the fewest of its names.
+#[tactic(auto, using(crate::proofs::Chosen::none_fits))]
+fn chosen(
+    alloc: Global,
+    text: &[u8],
+    tokens: &[TokenAt],
+    tables: &Tables,
+) -> Result<Datapath, Memory>
+    requires seq { IsSound tables.now.seq.rows }
+    requires seq_plus { IsSound tables.now.seq_plus.rows }
+    requires pipe { IsSound tables.now.pipe.rows }
+    ensures { IfOk result (λ path. (other : Datapath) → HasDesign (rows_in tables.now other) text.now → HasDesign (rows_in tables.now path) text.now) }
+{
+    if is_design(alloc, text, tables, Datapath::Pipe)? {
+        return Ok(Datapath::Pipe);
+    }
+    if is_design(alloc, text, tables, Datapath::Seq)? {
+        return Ok(Datapath::Seq);
+    }
+    if is_design(alloc, text, tables, Datapath::SeqPlus)? {
+        return Ok(Datapath::SeqPlus);
+    }
+    Ok(nearest(text, tokens, tables))
+}
+
+/// The faults of a text that the HCL reader accepts, for a datapath, or for the one that `chosen` chooses.
+fn bound_report(
+    alloc: Global,
+    text: &[u8],
+    tables: &Tables,
+    asked: Option<Datapath>,
+) -> Result<Report, Memory>
+    requires seq { IsSound tables.now.seq.rows }
+    requires seq_plus { IsSound tables.now.seq_plus.rows }
+    requires pipe { IsSound tables.now.pipe.rows }
+    ensures { IfOk result (ReportsHcl tables.now asked text.now) }
+{
+    let tokens = token_list(alloc, text)?;
+    let datapath = match asked {
+        Some(datapath) => datapath,
+        None => chosen(alloc, text, tokens.as_slice(), tables)?,
+    };
+    let faults = faults_of_asked(alloc, text, tokens.as_slice(), tables, datapath)?;
+    Ok(Report {
+        datapath: Some(datapath),
+        faults: Items::of(faults),
+    })
+}
+
 /// The faults of an HCL text for a datapath, or for the one whose names fit best: if it isn't HCL, the reader's fault
-/// alone; otherwise every fault of binding, or a cycle. Without faults the file is a design for the datapath.
+/// alone; otherwise every fault of binding, or a cycle. It has no fault exactly if it is a design for the datapath.
+#[tactic(auto, using(hcl_design::proofs::Faults::none_if_unread))]
 pub fn hcl_report(
     alloc: Global,
     text: &[u8],
@@ -123,23 +198,13 @@ pub fn hcl_report(
     requires pipe { IsSound tables.now.pipe.rows }
     ensures { IfOk result (ReportsHcl tables.now asked text.now) }
 {
-    if let Some(stop) = stop_in(alloc, text)? {
-        let mut out = Vec::new(alloc);
-        push(&mut out, reading_fault(alloc, text, &stop)?)?;
-        let faults = Items::of(out);
-        return Ok(Report {
-            datapath: asked,
-            faults,
-        });
-    }
-    let tokens = token_list(alloc, text)?;
-    let datapath = match asked {
-        Some(datapath) => datapath,
-        None => nearest(text, tokens.as_slice(), tables),
+    let Some(stop) = stop_in(alloc, text)? else {
+        return bound_report(alloc, text, tables, asked);
     };
-    let faults = faults_of_asked(alloc, text, tokens.as_slice(), tables, datapath)?;
+    let mut out = Vec::new(alloc);
+    push(&mut out, reading_fault(alloc, text, &stop)?)?;
     Ok(Report {
-        datapath: Some(datapath),
-        faults: Items::of(faults),
+        datapath: asked,
+        faults: Items::of(out),
     })
 }

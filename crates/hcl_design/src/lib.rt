@@ -1,1 +1,6 @@
-//! The design of an HCL text: what it is to be one. Its specs are all of this crate.
+//! The design of an HCL text over a table of signals, and why a text has none.
+#![tactic(auto)]
+
+mod design;
+
+pub use design::{NoDesign, design_of, design_of_file};

@@ -32,7 +32,8 @@ use Rattle.cli_plans.specs.Known.{Known}
 use Rattle.cli_plans.specs.Plan.{Answer, MayBeAnswer, value_from}
 use Rattle.y86_cli.specs.CallContract.{MeetsContract}
 use Rattle.y86_call_laws.proofs.Agreement.{loads_ok}
-use Rattle.y86_call_laws.proofs.Bigs.{not_long, not_missing, not_refused, one_design, same_bytes}
+use Rattle.hcl_design.proofs.Faults.{one_design}
+use Rattle.y86_call_laws.proofs.Bigs.{not_long, not_missing, not_refused, same_bytes}
 use Rattle.y86_call_laws.proofs.Loaded.{loaded_is_image}
 use Rattle.program_laws.specs.Prints.{PrintsReport, PrintsRun}
 

@@ -1,8 +1,10 @@
 //! `check`: the verdict on an HCL file, explained.
-ghost use Rattle.std.specs.Prelude.{◌≡◌, IfOk};
+ghost use Rattle.std.specs.Prelude.{◌≡◌, ◌≤◌, IfErr, IfOk};
+ghost use Rattle.ctl_verdicts.specs.ObligationSet.{IsFault};
 ghost use Rattle.hcl_types.specs.Tables.{IsBoundDesign};
 ghost use Rattle.seq_plus.specs.Datapaths.{table_rows};
-ghost use Rattle.tell_checks.specs.Accepted.{IsAcceptedText, RefinesOn};
+ghost use Rattle.tell_checks.specs.Accepted.{BreaksOn, HasNoVerdict, IsAcceptedText, IsRejectedText, RefinesOn};
+ghost use Rattle.tell_faults.specs.Stops.{status_of};
 ghost use Rattle.tell_faults.specs.Told.{HasBytesWith};
 
 use crate::cases::case_places;
@@ -61,7 +63,10 @@ fn explain(
     file: &ExplainedFile<'_>,
 ) -> Result<Said, CheckFault>
     requires { IsBoundDesign (table_rows asked.path) bound.now }
-    ensures { IfOk result (λ said. said.status ≡ 0 → RefinesOn asked.path asked.variant bound.now.ordered.design.terms) }
+    ensures accepted { IfOk result (λ said. said.status ≡ 0 → RefinesOn asked.path asked.variant bound.now.ordered.design.terms) }
+    ensures rejected { IfOk result (λ said. said.status ≡ 1 → BreaksOn asked.path asked.variant bound.now.ordered.design.terms) }
+    ensures low { IfOk result (λ said. said.status ≤ 1) }
+    ensures undecided { IfErr result (IsFault (table_rows asked.path) bound.now.ordered.design.terms) }
 {
     match asked.path {
         Datapath::Pipe => explain_pipe(alloc, asked, bound, file),
@@ -72,16 +77,20 @@ fn explain(
     }
 }
 
-/// Explains the verdict on an HCL file. The status is 0 only if the file has a design for the datapath, and the datapath
-/// under it does what the instructions mean, for every program that the theorem covers.
-#[tactic(auto, using(crate::proofs::Accepted::accepted))]
+/// Explains the verdict on an HCL file. If the status is 0, the file has a design for the datapath, and the datapath under
+/// it does what the instructions mean, for every program that the theorem covers. If it is 1, the design breaks an
+/// obligation.
+#[tactic(auto, using(crate::proofs::Accepted::accepted, crate::proofs::Accepted::rejected, crate::proofs::Accepted::no_design, crate::proofs::Accepted::undecided))]
 pub fn check<'a, F: Files>(
     alloc: Global,
     hcl: &'a str,
     asked: CheckQuestion,
     files: &mut F,
 ) -> Result<Said, Stop<'a>>
-    ensures { IfOk result (λ said. said.status ≡ 0 → HasBytesWith (F.told files.old hcl.now) (IsAcceptedText asked.path asked.variant)) }
+    ensures accepted { IfOk result (λ said. said.status ≡ 0 → HasBytesWith (F.told files.old hcl.now) (IsAcceptedText asked.path asked.variant)) }
+    ensures rejected { IfOk result (λ said. said.status ≡ 1 → HasBytesWith (F.told files.old hcl.now) (IsRejectedText asked.path asked.variant)) }
+    ensures low { IfOk result (λ said. said.status ≤ 1) }
+    ensures faulty { IfErr result (λ stop. status_of stop ≡ 5 → HasBytesWith (F.told files.old hcl.now) (HasNoVerdict asked.path)) }
 {
     let source = match files.read(alloc, hcl, HCL_LIMIT) {
         Ok(source) => source,

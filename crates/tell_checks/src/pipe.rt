@@ -1,9 +1,11 @@
 //! `check pipe`: the verdict on a design for PIPE, explained.
-ghost use Rattle.std.specs.Prelude.{◌≡◌, ◌↔◌, IfOk, true};
+ghost use Rattle.std.specs.Prelude.{◌≡◌, ◌≤◌, ◌↔◌, IfErr, IfOk, true};
 ghost use Rattle.control_check.specs.PipeVerdicts.{RefinesPipe};
 ghost use Rattle.dp_signals.specs.PipeTable.{pipe_rows};
+ghost use Rattle.ctl_verdicts.specs.ObligationSet.{IsFault};
 ghost use Rattle.hcl_types.specs.Tables.{IsBoundDesign};
 ghost use Rattle.pipe_refusals.specs.Answered.{is_yes};
+ghost use Rattle.tell_checks.specs.Accepted.{BreaksPipe};
 ghost use Rattle.tell_checks.specs.Explained.{Answers};
 
 use crate::yes::put_yes_facts;
@@ -27,7 +29,8 @@ fn answer_pipe(
     bound: &BoundDesign,
 ) -> Result<PipeAnswer, CheckFault>
     requires { IsBoundDesign pipe_rows bound.now }
-    ensures { IfOk result (Answers variant bound.now.ordered.design.terms) }
+    ensures answer { IfOk result (Answers variant bound.now.ordered.design.terms) }
+    ensures undecided { IfErr result (IsFault pipe_rows bound.now.ordered.design.terms) }
 {
     diagnose_pipe(alloc, variant, &bound.ordered)
 }
@@ -79,7 +82,8 @@ fn answer_text(
     file: &ExplainedFile<'_>,
     answer: &PipeAnswer,
 ) -> Result<Said, AllocError>
-    ensures { IfOk result (λ said. (said.status ≡ 0) ↔ (is_yes answer.now ≡ true)) }
+    ensures yes { IfOk result (λ said. (said.status ≡ 0) ↔ (is_yes answer.now ≡ true)) }
+    ensures low { IfOk result (λ said. said.status ≤ 1) }
 {
     match answer {
         PipeAnswer::Yes(settings) => Ok(Said {
@@ -93,8 +97,10 @@ fn answer_text(
     }
 }
 
-/// Explains the verdict on a design for PIPE. The status is 0 only if its machine refines the run of instructions on
-/// every image whose instructions fetch no byte that one of the three before them stored.
+/// Explains the verdict on a design for PIPE. If the status is 0, its machine refines the run of instructions on every
+/// image whose instructions fetch no byte that one of the three before them stored. If it is 1, the design breaks an
+/// obligation.
+#[tactic(auto, using(crate::proofs::Accepted::breaks_pipe))]
 pub fn explain_pipe(
     alloc: Global,
     asked: CheckQuestion,
@@ -102,7 +108,10 @@ pub fn explain_pipe(
     file: &ExplainedFile<'_>,
 ) -> Result<Said, CheckFault>
     requires { IsBoundDesign pipe_rows bound.now }
-    ensures { IfOk result (λ said. said.status ≡ 0 → RefinesPipe asked.variant bound.now.ordered.design.terms) }
+    ensures accepted { IfOk result (λ said. said.status ≡ 0 → RefinesPipe asked.variant bound.now.ordered.design.terms) }
+    ensures rejected { IfOk result (λ said. said.status ≡ 1 → BreaksPipe asked.variant bound.now.ordered.design.terms) }
+    ensures low { IfOk result (λ said. said.status ≤ 1) }
+    ensures undecided { IfErr result (IsFault pipe_rows bound.now.ordered.design.terms) }
 {
     let answer = answer_pipe(alloc, asked.variant, bound)?;
     match answer_text(alloc, asked, file, &answer) {

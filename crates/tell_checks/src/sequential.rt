@@ -1,9 +1,11 @@
 //! `check seq` and `check seqplus`: the verdict on a design for SEQ or SEQ+, explained.
-ghost use Rattle.std.specs.Prelude.{◌≡◌, ◌↔◌, IfOk, true};
+ghost use Rattle.std.specs.Prelude.{◌≡◌, ◌≤◌, ◌↔◌, IfErr, IfOk, true};
+ghost use Rattle.ctl_verdicts.specs.ObligationSet.{IsFault};
 ghost use Rattle.hcl_types.specs.Tables.{IsBoundDesign};
 ghost use Rattle.seq_plus.specs.Datapaths.{rows_of};
 ghost use Rattle.seq_check.specs.Verdicts.{Refines};
 ghost use Rattle.seq_refusals.specs.Answered.{is_yes};
+ghost use Rattle.tell_checks.specs.Accepted.{BreaksSequential};
 ghost use Rattle.tell_checks.specs.Explained.{SeqAnswers};
 
 use crate::yes::put_yes_facts;
@@ -27,7 +29,8 @@ fn answer_sequential(
     bound: &BoundDesign,
 ) -> Result<SeqAnswer, CheckFault>
     requires { IsBoundDesign (rows_of which) bound.now }
-    ensures { IfOk result (SeqAnswers which variant bound.now.ordered.design.terms) }
+    ensures answer { IfOk result (SeqAnswers which variant bound.now.ordered.design.terms) }
+    ensures undecided { IfErr result (IsFault (rows_of which) bound.now.ordered.design.terms) }
 {
     diagnose_seq(alloc, which, variant, &bound.ordered)
 }
@@ -79,7 +82,8 @@ fn answer_text(
     file: &ExplainedFile<'_>,
     answer: &SeqAnswer,
 ) -> Result<Said, AllocError>
-    ensures { IfOk result (λ said. (said.status ≡ 0) ↔ (is_yes answer.now ≡ true)) }
+    ensures yes { IfOk result (λ said. (said.status ≡ 0) ↔ (is_yes answer.now ≡ true)) }
+    ensures low { IfOk result (λ said. said.status ≤ 1) }
 {
     match answer {
         SeqAnswer::Yes => Ok(Said {
@@ -93,8 +97,9 @@ fn answer_text(
     }
 }
 
-/// Explains the verdict on a design for SEQ or SEQ+. The status is 0 only if its machine runs as the instructions do, on
-/// every image.
+/// Explains the verdict on a design for SEQ or SEQ+. If the status is 0, its machine runs as the instructions do, on every
+/// image. If it is 1, the design breaks an obligation.
+#[tactic(auto, using(crate::proofs::Accepted::breaks_sequential))]
 pub fn explain_sequential(
     alloc: Global,
     which: SequentialDatapath,
@@ -103,7 +108,10 @@ pub fn explain_sequential(
     file: &ExplainedFile<'_>,
 ) -> Result<Said, CheckFault>
     requires { IsBoundDesign (rows_of which) bound.now }
-    ensures { IfOk result (λ said. said.status ≡ 0 → Refines which asked.variant bound.now.ordered.design.terms) }
+    ensures accepted { IfOk result (λ said. said.status ≡ 0 → Refines which asked.variant bound.now.ordered.design.terms) }
+    ensures rejected { IfOk result (λ said. said.status ≡ 1 → BreaksSequential which asked.variant bound.now.ordered.design.terms) }
+    ensures low { IfOk result (λ said. said.status ≤ 1) }
+    ensures undecided { IfErr result (IsFault (rows_of which) bound.now.ordered.design.terms) }
 {
     let answer = answer_sequential(alloc, which, asked.variant, bound)?;
     match answer_text(alloc, which, asked, file, &answer) {

@@ -1,6 +1,6 @@
 //! Answers a call: what it prints, and its exit status.
-ghost use Rattle.std.specs.Prelude.{◌≡◌, IfOk};
-ghost use Rattle.tell_cli.specs.Statuses.{IsRight};
+ghost use Rattle.std.specs.Prelude.{◌≡◌, IfErr, IfOk};
+ghost use Rattle.tell_cli.specs.Statuses.{IsFaulty, IsRight, IsWrong};
 ghost use Rattle.tell_faults.specs.Stops.{status_of};
 
 use crate::showing::show;
@@ -23,7 +23,8 @@ const TOO_LONG: &str =
 
 /// Writes the output, and returns the status.
 fn say<'a, O: Sink>(said: Said, out: &mut O) -> Result<u8, Stop<'a>>
-    ensures { IfOk result (λ status. status ≡ said.status) }
+    ensures said { IfOk result (λ status. status ≡ said.status) }
+    ensures stop { IfErr result (λ stop. stop ≡ Stop.Write) }
 {
     match put_all(out, said.text.as_slice()) {
         Ok(()) => Ok(said.status),
@@ -38,7 +39,10 @@ fn answer<'a, F: Files, O: Sink>(
     files: &mut F,
     out: &mut O,
 ) -> Result<u8, Stop<'a>>
-    ensures { IfOk result (λ status. status ≡ 0 → IsRight (F.told files.old) call.entry) }
+    ensures right { IfOk result (λ status. status ≡ 0 → IsRight (F.told files.old) call.entry) }
+    ensures wrong { IfOk result (λ status. status ≡ 1 → IsWrong (F.told files.old) call.entry) }
+    ensures faulty { IfOk result (λ status. status ≡ 5 → IsFaulty (F.told files.old) call.entry) }
+    ensures stops { IfErr result (λ stop. status_of stop ≡ 5 → IsFaulty (F.told files.old) call.entry) }
 {
     match call {
         Call::Check { hcl, asked } => say(check(alloc, hcl, asked, files)?, out),
@@ -87,7 +91,8 @@ fn tell_stop<E: Sink>(stop: &Stop<'_>, err: &mut E) -> u8
     stop.status()
 }
 
-/// Does what a call asks for, and returns the exit status of the program. Status 0 says what `IsRight` does.
+/// Does what a call asks for, and returns the exit status of the program. Status 0 says what `IsRight` does, status 1 what
+/// `IsWrong` does, and status 5 what `IsFaulty` does.
 pub fn respond<F: Files, O: Sink, E: Sink>(
     alloc: Global,
     call: Call<'_>,
@@ -95,7 +100,9 @@ pub fn respond<F: Files, O: Sink, E: Sink>(
     out: &mut O,
     err: &mut E,
 ) -> u8
-    ensures { result ≡ 0 → IsRight (F.told files.old) call.entry }
+    ensures right { result ≡ 0 → IsRight (F.told files.old) call.entry }
+    ensures wrong { result ≡ 1 → IsWrong (F.told files.old) call.entry }
+    ensures faulty { result ≡ 5 → IsFaulty (F.told files.old) call.entry }
 {
     match answer(alloc, call, files, out) {
         Ok(status) => status,

@@ -1,4 +1,4 @@
--- What status 0 of `fault` says of a file.
+-- What statuses 0 and 5 of `fault` say of a file.
 use Rattle.std.specs.Prelude.{◌≡◌, ℕ, nat_eq, true, List, Option, Some, None, Ok, codes, if◌then◌else◌}
 use Rattle.std.specs.List.{ends_with}
 use Rattle.fault_report.specs.ObjectBytes.{puts_bytes}
@@ -22,12 +22,19 @@ abbrev pub kind_of : List ℕ → Option Datapath → Kind
 kind_of name (Some path) = Hcl
 kind_of name None = kind_by_name name
 
--- an HCL text is a design for the datapath that is asked for, or for some datapath if none is; the assembler accepts a
--- source; an object text is loaded, and puts a byte
+-- the HCL text is a design for the datapath that is asked for, or for some datapath if none is
+abbrev pub HasWantedDesign : Option Datapath → List ℕ → Type 0
+HasWantedDesign asked text = (path : Datapath) × IsWanted asked path × HasDesign (table_rows path) text
+
+-- the object text is loaded into memory of this size, and puts a byte
+abbrev pub IsLoadable : ℕ → List ℕ → Type 0
+IsLoadable size text = (image : List ℕ) × (object_of text size ≡ Ok image) × (puts_bytes text ≡ true)
+
+-- an HCL text has such a design, the assembler accepts a source, and an object text is loadable
 abbrev pub IsFaultlessText : Kind → FaultQuestion → List ℕ → Type 0
-IsFaultlessText Hcl asked text = (path : Datapath) × IsWanted asked.path path × HasDesign (table_rows path) text
+IsFaultlessText Hcl asked text = HasWantedDesign asked.path text
 IsFaultlessText Assembly asked text = (lines : List Line) × (assembled asked.variant text asked.size ≡ Ok lines)
-IsFaultlessText Object asked text = (image : List ℕ) × (object_of text asked.size ≡ Ok image) × (puts_bytes text ≡ true)
+IsFaultlessText Object asked text = IsLoadable asked.size text
 
 -- the text of a file with this name
 abbrev pub IsFaultlessFile : List ℕ → FaultQuestion → List ℕ → Type 0

@@ -1,13 +1,10 @@
 //! `fault`: every fault of a file, in sentences or as JSON.
-ghost use Rattle.std.specs.Prelude.{◌≡◌, ◌↔◌, [], IfOk};
+ghost use Rattle.std.specs.Prelude.{◌≡◌, ◌≢◌, ◌↔◌, [], IfErr, IfOk};
 ghost use Rattle.y86_base.specs.Image.{IsSize};
-ghost use Rattle.fault_report.specs.Told.{IsWanted};
-ghost use Rattle.hcl_design.specs.Designs.{HasDesign};
-ghost use Rattle.hcl_types.specs.declared.table.Datapath.{Datapath};
-ghost use Rattle.seq_plus.specs.Datapaths.{table_rows};
-ghost use Rattle.tell_faults.specs.Faultless.{IsFaultlessFile, IsFaultlessText};
+ghost use Rattle.tell_faults.specs.Faultless.{HasWantedDesign, IsFaultlessFile, IsFaultlessText};
 ghost use Rattle.tell_faults.specs.Faultless as kinds;
 ghost use Rattle.tell_faults.specs.Faults as spec;
+ghost use Rattle.tell_faults.specs.Stops.{status_of};
 ghost use Rattle.tell_faults.specs.Told.{HasBytesWith};
 
 use crate::datapaths::tables;
@@ -72,19 +69,19 @@ fn kind_of(file: &str, path: Option<Datapath>) -> Kind
 }
 
 /// The faults of an HCL text, for the datapath that is asked for, or for the one whose names fit best.
-#[tactic(auto, using(crate::proofs::Faultless::hcl_accepted))]
+#[tactic(auto, using(crate::proofs::Faultless::hcl_faultless))]
 pub fn hcl_faults_of(alloc: Global, text: &[u8], asked: Option<Datapath>) -> Result<Report, Memory>
-    ensures { IfOk result (λ report. report.faults ≡ [] → (path : Datapath) × IsWanted asked path × HasDesign (table_rows path) text.now) }
+    ensures { IfOk result (λ report. (report.faults ≡ []) ↔ HasWantedDesign asked text.now) }
 {
     let tables = tables(alloc)?;
     hcl_report(alloc, text, &tables, asked)
 }
 
 /// The faults of a text.
-#[tactic(auto, using(crate::proofs::Faultless::source_accepted, crate::proofs::Faultless::object_accepted))]
+#[tactic(auto, using(crate::proofs::Faultless::source_faultless, crate::proofs::Faultless::object_faultless))]
 fn report_of(alloc: Global, kind: Kind, text: &[u8], asked: FaultQuestion) -> Result<Report, Memory>
     requires { IsSize asked.size }
-    ensures { IfOk result (λ report. report.faults ≡ [] → IsFaultlessText kind asked text.now) }
+    ensures { IfOk result (λ report. (report.faults ≡ []) ↔ IsFaultlessText kind asked text.now) }
 {
     match kind {
         Kind::Hcl => hcl_faults_of(alloc, text, asked.path),
@@ -123,6 +120,7 @@ pub fn report_stop(alloc: Global, file: &str, report: Result<Report, Memory>) ->
 /// The output for a report, and the status: 5 if it has a fault.
 fn said_of(alloc: Global, file: &str, report: &Report, json: bool) -> Result<Said, Memory>
     ensures status { IfOk result (λ said. (said.status ≡ 0) ↔ (report.now.faults ≡ [])) }
+    ensures faulty { IfOk result (λ said. said.status ≢ 0 → said.status ≡ 5) }
     ensures text { IfOk result (λ said. said.text.items ≡ spec.printed json file.now report.now) }
 {
     let text = printed(alloc, file, report, json)?;
@@ -133,8 +131,8 @@ fn said_of(alloc: Global, file: &str, report: &Report, json: bool) -> Result<Sai
     }
 }
 
-/// Prints every fault of a file. The status is 5 if there is one; it is 0 only if the file is accepted.
-#[tactic(auto, using(crate::proofs::Faultless::faultless))]
+/// Prints every fault of a file. The status is 0 or 5: 0 exactly if the file is accepted.
+#[tactic(auto, using(crate::proofs::Faultless::has_none, crate::proofs::Faultless::has_some))]
 pub fn report_faults<'a, F: Files>(
     alloc: Global,
     file: &'a str,
@@ -142,7 +140,10 @@ pub fn report_faults<'a, F: Files>(
     files: &mut F,
 ) -> Result<Said, Stop<'a>>
     requires { IsSize asked.size }
-    ensures { IfOk result (λ said. said.status ≡ 0 → HasBytesWith (F.told files.old file.now) (IsFaultlessFile file.now asked)) }
+    ensures faultless { IfOk result (λ said. said.status ≡ 0 → HasBytesWith (F.told files.old file.now) (IsFaultlessFile file.now asked)) }
+    ensures faulty { IfOk result (λ said. said.status ≢ 0 → HasBytesWith (F.told files.old file.now) (λ text. IsFaultlessFile file.now asked text → ⊥)) }
+    ensures status { IfOk result (λ said. said.status ≢ 0 → said.status ≡ 5) }
+    ensures stops { IfErr result (λ stop. status_of stop ≢ 5) }
 {
     let kind = kind_of(file, asked.path);
     let text = match files.read(alloc, file, limit_of(kind)) {

@@ -10,7 +10,7 @@ mod said;
 mod stop;
 
 pub use datapaths::tables;
-pub use designs::{NoDesign, design_of, fault_stop};
+pub use designs::{design_of, fault_stop};
 pub use faulty::{HCL_LIMIT, OBJECT_LIMIT, report_faults};
 pub use objects::{object_stop, text_stop};
 pub use said::{Said, json_text};

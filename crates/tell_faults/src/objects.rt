@@ -1,5 +1,7 @@
 //! The stops at object texts: every fault of one.
+ghost use Rattle.std.specs.Prelude.{◌≡◌, ◌≢◌};
 ghost use Rattle.y86_base.specs.Image.{IsSize};
+ghost use Rattle.tell_faults.specs.Stops.{status_of};
 
 use crate::faulty::report_stop;
 use crate::stop::Stop;
@@ -23,6 +25,7 @@ pub fn object_stop<'a>(
     fault: &YoFault,
 ) -> Stop<'a>
     requires { IsSize size }
+    ensures { status_of result ≡ 5 → fault.now.why ≢ YoWhy.Memory }
 {
     if fault.why == YoWhy::Memory {
         return Stop::Memory;

@@ -1,5 +1,5 @@
 //! Why a call ends without an answer: the status of each stop, and its message on standard error.
-ghost use Rattle.std.specs.Prelude.{◌≡◌};
+ghost use Rattle.std.specs.Prelude.{◌≡◌, ◌≢◌};
 ghost use Rattle.tell_faults.specs.Stops as spec;
 
 use std::alloc::AllocError;
@@ -32,7 +32,8 @@ impl From<AllocError> for Stop<'_> {
 
 /// The stop at a read of a file that failed.
 pub fn unread(file: &str, error: ReadErr) -> Stop<'_>
-    ensures { spec.IsUnread file.now error result }
+    ensures unread { spec.IsUnread file.now error result }
+    ensures status { spec.status_of result ≢ 5 }
 {
     match error {
         ReadErr::Failed => Stop::Read(file),

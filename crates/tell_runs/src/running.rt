@@ -1,13 +1,15 @@
 //! `run`: runs a program under an HCL file for PIPE and by its instructions, side by side.
-ghost use Rattle.std.specs.Prelude.{◌≡◌, ◌≢◌, ◌↔◌, ◌<◌, ◌^◌, IfOk, true};
+ghost use Rattle.std.specs.Prelude.{◌≡◌, ◌≢◌, ◌↔◌, ◌<◌, ◌≤◌, ◌^◌, IfErr, IfOk, true};
 ghost use Rattle.run_report.specs.Outcome.{is_same};
 ghost use Rattle.run_report.specs.declared.outcome.Outcome.{Outcome};
 ghost use Rattle.y86_base.specs.Image.{IsSize};
-ghost use Rattle.tell_faults.specs.Told.{HasBytesWith};
-ghost use Rattle.tell_runs.specs.Running.{EndsAlike, IsRun};
+ghost use Rattle.tell_faults.specs.Stops.{status_of};
+ghost use Rattle.tell_faults.specs.Told.{HasBothWith};
+ghost use Rattle.tell_runs.specs.Running.{EndsAlike, EndsApart, HasNoRun, IsNoRun, IsRun};
 ghost use Rattle.wb_io.specs.Files.{HasBytes};
 
 use fault_report::has_bytes;
+use hcl_design::NoDesign;
 use hcl_types::{BoundDesign, Datapath, Row, Table};
 use json::Writer;
 use run_report::{
@@ -15,8 +17,8 @@ use run_report::{
 };
 use std::alloc::{AllocError, Global};
 use tell_faults::{
-    HCL_LIMIT, NoDesign, OBJECT_LIMIT, Said, Stop, design_of, fault_stop, json_text, object_stop,
-    text_stop, unread,
+    HCL_LIMIT, OBJECT_LIMIT, Said, Stop, design_of, fault_stop, json_text, object_stop, text_stop,
+    unread,
 };
 use tell_words::RunQuestion;
 use wb_io::Files;
@@ -39,11 +41,13 @@ struct Run {
 }
 
 /// Runs an object text under an HCL text, and by its instructions.
+#[tactic(auto, using(crate::proofs::Status::is_unloadable, crate::proofs::Status::is_empty))]
 fn run_texts(alloc: Global, source: &[u8], object: &[u8], asked: &RunQuestion) -> Result<Run, NoRun>
     requires size { IsSize asked.now.size }
     requires limit { asked.now.limit < 2 ^ 63 }
     ensures run { IfOk result (λ run. IsRun asked.now.variant source.now object.now asked.now.size asked.now.limit run.outcome) }
     ensures asked { IfOk result (λ run. (asked.now.checked ≡ true) ↔ (run.outcome.judged ≢ Judged.Unasked)) }
+    ensures none { IfErr result (IsNoRun asked.now.size source.now object.now) }
 {
     let bound = match design_of(alloc, Datapath::Pipe, source) {
         Ok(bound) => bound,
@@ -86,7 +90,8 @@ fn outcome_text(
 
 /// The output for a run, and the status, which is 0 exactly if both runs ended alike.
 fn said_of(alloc: Global, asked: &RunQuestion, run: &Run) -> Result<Said, AllocError>
-    ensures { IfOk result (λ said. (said.status ≡ 0) ↔ (is_same run.now.outcome.compared ≡ true)) }
+    ensures same { IfOk result (λ said. (said.status ≡ 0) ↔ (is_same run.now.outcome.compared ≡ true)) }
+    ensures low { IfOk result (λ said. said.status ≤ 1) }
 {
     Ok(Said {
         status: outcome_status(&run.outcome.compared),
@@ -96,6 +101,7 @@ fn said_of(alloc: Global, asked: &RunQuestion, run: &Run) -> Result<Said, AllocE
 
 /// Runs the program of an object text under an HCL text for PIPE and by its instructions. The names of their files are
 /// for the reports of faults.
+#[tactic(auto, using(crate::proofs::Status::runs_apart))]
 fn report_run<'a>(
     alloc: Global,
     hcl: &'a str,
@@ -106,7 +112,10 @@ fn report_run<'a>(
 ) -> Result<Said, Stop<'a>>
     requires size { IsSize asked.now.size }
     requires limit { asked.now.limit < 2 ^ 63 }
-    ensures { IfOk result (λ said. said.status ≡ 0 → EndsAlike asked.now.variant asked.now.size asked.now.limit source.now object.now) }
+    ensures alike { IfOk result (λ said. said.status ≡ 0 → EndsAlike asked.now.variant asked.now.size asked.now.limit source.now object.now) }
+    ensures apart { IfOk result (λ said. said.status ≡ 1 → EndsApart asked.now.variant asked.now.size asked.now.limit source.now object.now) }
+    ensures low { IfOk result (λ said. said.status ≤ 1) }
+    ensures faulty { IfErr result (λ stop. status_of stop ≡ 5 → HasNoRun asked.now.size source.now object.now) }
 {
     match run_texts(alloc, source, object, asked) {
         Ok(run) => Ok(said_of(alloc, asked, &run)?),
@@ -126,6 +135,7 @@ fn bytes_of<'a, F: Files>(
 ) -> Result<(Vec<u8>, Vec<u8>), Stop<'a>>
     ensures hcl { IfOk result (λ read. HasBytes (F.told files.old hcl.now) read.0.items) }
     ensures obj { IfOk result (λ read. HasBytes (F.told files.old obj.now) read.1.items) }
+    ensures stops { IfErr result (λ stop. status_of stop ≢ 5) }
 {
     let source = match files.read(alloc, hcl, HCL_LIMIT) {
         Ok(source) => source,
@@ -137,9 +147,9 @@ fn bytes_of<'a, F: Files>(
     }
 }
 
-/// Runs a program under an HCL file for PIPE and by its instructions, and reports where they differ. The status is 0 only
-/// if both runs ended alike.
-#[tactic(auto, using(crate::proofs::Status::ended_alike))]
+/// Runs a program under an HCL file for PIPE and by its instructions, and reports where they differ. The status is 0 if
+/// both runs ended alike, and otherwise 1.
+#[tactic(auto, using(crate::proofs::Status::of_both))]
 pub fn tell_run<'a, F: Files>(
     alloc: Global,
     hcl: &'a str,
@@ -149,8 +159,10 @@ pub fn tell_run<'a, F: Files>(
 ) -> Result<Said, Stop<'a>>
     requires size { IsSize asked.now.size }
     requires limit { asked.now.limit < 2 ^ 63 }
-    ensures { IfOk result (λ said. said.status ≡ 0 → HasBytesWith (F.told files.old hcl.now) (λ source.
-        HasBytesWith (F.told files.old obj.now) (EndsAlike asked.now.variant asked.now.size asked.now.limit source))) }
+    ensures alike { IfOk result (λ said. said.status ≡ 0 → HasBothWith (F.told files.old hcl.now) (F.told files.old obj.now) (EndsAlike asked.now.variant asked.now.size asked.now.limit)) }
+    ensures apart { IfOk result (λ said. said.status ≡ 1 → HasBothWith (F.told files.old hcl.now) (F.told files.old obj.now) (EndsApart asked.now.variant asked.now.size asked.now.limit)) }
+    ensures low { IfOk result (λ said. said.status ≤ 1) }
+    ensures faulty { IfErr result (λ stop. status_of stop ≡ 5 → HasBothWith (F.told files.old hcl.now) (F.told files.old obj.now) (HasNoRun asked.now.size)) }
 {
     let (source, object) = bytes_of(alloc, hcl, obj, files)?;
     report_run(alloc, hcl, obj, source.as_slice(), object.as_slice(), asked)

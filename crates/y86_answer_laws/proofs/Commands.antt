@@ -34,7 +34,8 @@ use Rattle.y86_answer_laws.specs.OneAnswer.{AreYes, HasOneAnswer, HasOneRefusal,
 use Rattle.y86_answer_laws.proofs.Checked.{accepts_pipe_one, control_apart, control_one, pipe_apart, pipe_check_one, refuses_pipe_one, seq_check_one}
 use Rattle.y86_answer_laws.proofs.Counted.{aigrun_one}
 use Rattle.y86_answer_laws.proofs.Designs.{design_belongs, design_ordered, hcl_one, read_apart, refusal_one}
-use Rattle.y86_call_laws.proofs.Bigs.{not_refused, one_design}
+use Rattle.hcl_design.proofs.Faults.{one_design}
+use Rattle.y86_call_laws.proofs.Bigs.{not_refused}
 use Rattle.y86_answer_laws.proofs.Plans.{after_one, answers_one, gives_one, gives_yes, reads_one, reads_yes, says_one, says_yes}
 use Rattle.y86_answer_laws.proofs.Runs.{big_one, pipe_answers_one, seq_answers_one}
 use Rattle.y86_answer_laws.proofs.Sampled.{sample_one}

@@ -30,7 +30,8 @@ use Rattle.y86_call_laws.proofs.Agreement.{control_high, design_high, high}
 use Rattle.y86_answer_laws.specs.OneAnswer.{KeptCertificate}
 use Rattle.y86_answer_laws.proofs.Checked.{control_apart}
 use Rattle.y86_answer_laws.proofs.Designs.{design_ordered}
-use Rattle.y86_call_laws.proofs.Bigs.{not_refused, one_design}
+use Rattle.hcl_design.proofs.Faults.{one_design}
+use Rattle.y86_call_laws.proofs.Bigs.{not_refused}
 
 -- ---- what `--cert` wrote
 

@@ -1,17 +1,10 @@
 -- What `big` answers for an accepted file.
-use Rattle.std.proofs.Common.{◌≡◌, ◌≢◌, inl, inr, ℕ, ◌+◌, ◌≤◌, true, List, [], ◌∷◌, length, Some, None, IfSome, refl, sym, ap, subst, ◌∙◌, Result, Ok, arith}
+use Rattle.std.proofs.Common.{◌≡◌, ◌≢◌, inl, inr, ℕ, ◌+◌, ◌≤◌, true, List, length, Some, None, IfSome, refl, sym, ap, subst, ◌∙◌, arith}
 use Rattle.wb_io.specs.Files.{HasBytes, HasMore}
 use Rattle.wb_io.specs.Sinks.{Appended}
 use Rattle.y86_base.specs.declared.parts.Variant.{Variant}
-use Rattle.hcl_read.proofs.LawLemmas.{at_most_one_file}
-use Rattle.hcl_read.proofs.OneFault.{file_has_no_fault}
-use Rattle.hcl_tree.specs.declared.tree.File.{File}
-use Rattle.hcl_binding.specs.Binding.{bound}
-use Rattle.hcl_types.specs.Equations.{needs_of}
-use Rattle.hcl_types.specs.Tables.{needs}
 use Rattle.hcl_types.specs.declared.table.Row.{Row}
 use Rattle.hcl_types.specs.declared.term.Term.{Term}
-use Rattle.hcl_order.specs.Dependence.{Depends, FirstCycle}
 use Rattle.control_check.specs.PipeVerdicts.{RefinesPipe}
 use Rattle.dp_signals.specs.PipeTable.{pipe_rows}
 use Rattle.prog_gen.specs.Programs.{program}
@@ -27,6 +20,7 @@ use Rattle.y86_words.specs.Wording.{IsInRange}
 use Rattle.y86_call_laws.specs.CheckedRuns.{HasAccepted}
 use Rattle.cli_runs.specs.Answers.{big_plan}
 use Rattle.cli_runs.specs.Big.{BigAnswers, AnsweredSame, big_line, big_status}
+use Rattle.hcl_design.proofs.Faults.{none_if_cyclic, none_if_unbound, none_if_unread, of_file, one_design}
 use Rattle.hcl_design.specs.Designs.{IsDesign}
 use Rattle.cli_plans.specs.Designs.{RefusesDesign}
 use Rattle.cli_plans.specs.PlanFollowing.{CallStates}
@@ -34,27 +28,14 @@ use Rattle.cli_plans.specs.Known.{Known}
 use Rattle.cli_plans.specs.Plan.{Answer, MayBeAnswer, done}
 use Rattle.y86_cli.specs.CallContract.{MeetsContract}
 
--- ---- the one design of a text
-
-pub one_design : (rows : List Row) (text : List ℕ) (terms others : List Term) → IsDesign rows text terms → IsDesign rows text others → terms ≡ others
-one_design rows text terms others d e =
-    let one : bound rows d.file.items ≡ bound rows e.file.items = ap (λ (f : File). bound rows f.items) (at_most_one_file text d.file e.file d.reads e.reads) in
-    let same : Result.Ok terms ≡ Ok others = sym d.design.binds ∙ (one ∙ e.design.binds) in
-    cc (same)
-
-a_cycle : (needed : ℕ → List ℕ) (cycle : List ℕ) → FirstCycle needed cycle → ((n : ℕ) → Depends needed n n → ⊥) → ⊥
-a_cycle needed [] first acyclic = first
-a_cycle needed (row ∷ between) first acyclic = acyclic row (between, first.walks)
+-- ---- a text with a design isn't refused
 
 pub not_refused : (name : List ℕ) (rows : List Row) (text : List ℕ) (terms : List Term) (a : Answer) → IsDesign rows text terms → RefusesDesign name rows text a → ⊥
-not_refused name rows text terms a d (inl (fault, is, told)) = file_has_no_fault text d.file fault d.reads is
+not_refused name rows text terms a d (inl (fault, is, told)) = none_if_unread rows text fault is (terms, d)
 not_refused name rows text terms a d (inr (inl unbound)) =
-    let one : bound rows d.file.items ≡ bound rows unbound.file.items = ap (λ (f : File). bound rows f.items) (at_most_one_file text d.file unbound.file d.reads unbound.reads) in
-    absurd (cc (d.design.binds, one, unbound.binds))
+    none_if_unbound rows unbound.file.items unbound.fault unbound.binds (of_file rows text unbound.file unbound.reads (terms, d))
 not_refused name rows text terms a d (inr (inr unordered)) =
-    let one : bound rows d.file.items ≡ bound rows unordered.file.items = ap (λ (f : File). bound rows f.items) (at_most_one_file text d.file unordered.file d.reads unordered.reads) in
-    let same : terms ≡ unordered.terms = cc (d.design.binds, one, unordered.binds) in
-    a_cycle (needs_of (needs rows unordered.terms)) unordered.cycle unordered.first (subst (λ (x : List Term). (n : ℕ) → Depends (needs_of (needs rows x)) n n → ⊥) same d.design.acyclic)
+    none_if_cyclic rows unordered.file.items unordered.terms unordered.cycle unordered.binds unordered.first (of_file rows text unordered.file unordered.reads (terms, d))
 
 -- ---- `big` for an accepted file
 
