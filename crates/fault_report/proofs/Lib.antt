@@ -1,2 +1,2 @@
-mod Chosen
+mod Reported
 pub mod Telling

@@ -3,7 +3,7 @@ ghost use Rattle.std.specs.Prelude.{◌≡◌, ◌↔◌, [], IfOk, true};
 ghost use Rattle.hcl_types.specs.Tables.{IsSound};
 ghost use Rattle.hcl_types.specs.declared.table.Datapath.{Datapath};
 ghost use Rattle.hcl_design.specs.Designs.{HasDesign};
-ghost use Rattle.fault_report.specs.Told.{ReportsHcl, rows_in};
+ghost use Rattle.fault_report.specs.Told.{IsWanted, ReportsHcl, rows_in};
 
 use crate::binding_faults::{Source, count_unknown, datapath_fault, table_faults};
 use crate::facts::{Fault, Report, Tables};
@@ -134,20 +134,24 @@ fn is_design(
     }
 }
 
-/// The datapath to report on if none is asked for: the first of PIPE, SEQ and SEQ+ for which the text is a design, and
-/// otherwise the one that lacks the fewest of its names.
-#[tactic(auto, using(crate::proofs::Chosen::none_fits))]
+/// The datapath to report on: the one that is asked for. If none is, the first of PIPE, SEQ and SEQ+ for which the text
+/// is a design, and otherwise the one that lacks the fewest of its names.
 fn chosen(
     alloc: Global,
     text: &[u8],
     tokens: &[TokenAt],
     tables: &Tables,
+    asked: Option<Datapath>,
 ) -> Result<Datapath, Memory>
     requires seq { IsSound tables.now.seq.rows }
     requires seq_plus { IsSound tables.now.seq_plus.rows }
     requires pipe { IsSound tables.now.pipe.rows }
-    ensures { IfOk result (λ path. (other : Datapath) → HasDesign (rows_in tables.now other) text.now → HasDesign (rows_in tables.now path) text.now) }
+    ensures wanted { IfOk result (IsWanted asked) }
+    ensures fits { IfOk result (λ path. (other : Datapath) → IsWanted asked other → HasDesign (rows_in tables.now other) text.now → HasDesign (rows_in tables.now path) text.now) }
 {
+    if let Some(datapath) = asked {
+        return Ok(datapath);
+    }
     if is_design(alloc, text, tables, Datapath::Pipe)? {
         return Ok(Datapath::Pipe);
     }
@@ -161,6 +165,7 @@ fn chosen(
 }
 
 /// The faults of a text that the HCL reader accepts, for a datapath, or for the one that `chosen` chooses.
+#[tactic(auto, using(crate::proofs::Reported::reports))]
 fn bound_report(
     alloc: Global,
     text: &[u8],
@@ -173,10 +178,7 @@ fn bound_report(
     ensures { IfOk result (ReportsHcl tables.now asked text.now) }
 {
     let tokens = token_list(alloc, text)?;
-    let datapath = match asked {
-        Some(datapath) => datapath,
-        None => chosen(alloc, text, tokens.as_slice(), tables)?,
-    };
+    let datapath = chosen(alloc, text, tokens.as_slice(), tables, asked)?;
     let faults = faults_of_asked(alloc, text, tokens.as_slice(), tables, datapath)?;
     Ok(Report {
         datapath: Some(datapath),
@@ -186,7 +188,7 @@ fn bound_report(
 
 /// The faults of an HCL text for a datapath, or for the one whose names fit best: if it isn't HCL, the reader's fault
 /// alone; otherwise every fault of binding, or a cycle. It has no fault exactly if it is a design for the datapath.
-#[tactic(auto, using(hcl_design::proofs::Faults::none_if_unread))]
+#[tactic(auto, using(crate::proofs::Reported::reports_stop))]
 pub fn hcl_report(
     alloc: Global,
     text: &[u8],
