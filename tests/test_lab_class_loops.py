@@ -20,6 +20,8 @@ from y86lab.curves import HEIGHT, LEFT, TOP as ABOVE, WIDTH, Curve, Scale, plot,
 from y86lab.progress import all_results
 
 LAB, SVG = f"{TOP}/y86-lab", "{http://www.w3.org/2000/svg}"
+# What y86-tell says of the text `word`.
+NO_NAME = "The file ends in the midst of an item: a name is missing after `word`."
 
 
 @pytest.fixture
@@ -75,7 +77,7 @@ def test_class(lab, folder):
         "cy": "pipe.hcl: it is missing",
         "dee": "length 1, yis: it doesn't end within 2000 steps",
         "fay": "the function is too long",
-        "'=hal": "the pipeline has a fault: pipe.hcl:2:1: Syntax",
+        "'=hal": f"the pipeline has a fault: pipe.hcl:2:1: {NO_NAME}",
     })
     same((rows["fay"]["bytes"], rows["fay"]["score"], rows["bob"]["64"], rows["gus"]["64"]), ("1054", "0.0", "", ""))
     same(sorted(os.listdir(f"{folder}/curves")), ["all.csv", "all.svg", "ann.csv", "ann.svg", "fay.csv", "fay.svg", "touch_harm.csv", "touch_harm.svg"])
@@ -102,7 +104,7 @@ def test_all_on_one_pipeline(lab, folder):
     status, out, err = lab("archlab", "in", "std.hcl")
     same((status, err, [row[:5] for row in csv.reader(io.StringIO(out))][1]), (0, "", ["ann", "0.0", MEAN, "94", ""]))
     same(lab("archlab", "in", "wrong.hcl"), (1, "", "wrong.hcl: the pipeline isn't accepted: no O22\n"))
-    same(lab("archlab", "in", "none.hcl"), (5, "", "none.hcl: the pipeline has a fault: none.hcl:2:1: Syntax\n"))
+    same(lab("archlab", "in", "none.hcl"), (5, "", f"none.hcl: the pipeline has a fault: none.hcl:2:1: {NO_NAME}\n"))
 
 
 def test_wrong_arguments(lab, folder):

@@ -20,8 +20,8 @@ reports t asked text path faults wanted fits exact = record {
 }
 
 -- the report on a text that isn't HCL
-pub reports_stop : (t : Tables) (asked : Option Datapath) (text : List ℕ) (stop : Stopped) (faults : List Fault) → IsStopped text stop → faults ≢ [] → ReportsHcl t asked text (record { datapath = asked; faults = faults })
-reports_stop t asked text stop faults stopped some = record {
+pub reports_stop : (t : Tables) (asked : Option Datapath) (text : List ℕ) (stop : Stopped) (report : Report) → IsStopped text stop → report.faults ≢ [] → ReportsHcl t asked text report
+reports_stop t asked text stop report stopped some = record {
   faultless = λ none. absurd (some none);
   accepted = λ path wanted design. absurd (none_if_unread (rows_in t path) text stop.fault stopped.is_fault design);
 }

@@ -3,13 +3,15 @@ ghost use Rattle.std.specs.Prelude.{◌≡◌, ◌↔◌, [], IfOk, true};
 ghost use Rattle.hcl_types.specs.Tables.{IsSound};
 ghost use Rattle.hcl_types.specs.declared.table.Datapath.{Datapath};
 ghost use Rattle.hcl_design.specs.Designs.{HasDesign};
+ghost use Rattle.hcl_faults.specs.Stops.{IsStopped};
+ghost use Rattle.fault_report.specs.declared.facts.Tables.{Tables};
 ghost use Rattle.fault_report.specs.Told.{IsWanted, ReportsHcl, rows_in};
 
 use crate::binding_faults::{Source, count_unknown, datapath_fault, table_faults};
 use crate::facts::{Fault, Report, Tables};
 use crate::hcl_reading::reading_fault;
 use hcl_design::{NoDesign, design_of};
-use hcl_faults::{TokenAt, stop_in, token_list};
+use hcl_faults::{Stopped, TokenAt, stop_in, token_list};
 use hcl_read::read;
 use hcl_types::{Datapath, Table};
 use std::alloc::Global;
@@ -186,9 +188,26 @@ fn bound_report(
     })
 }
 
+/// The report on a text that isn't HCL: the reader's fault alone.
+fn stop_report(
+    alloc: Global,
+    text: &[u8],
+    asked: Option<Datapath>,
+    stop: &Stopped,
+) -> Result<Report, Memory>
+    requires { IsStopped text.now stop.now }
+    ensures { IfOk result (λ report. (tables : Tables) → ReportsHcl tables asked text.now report) }
+{
+    let mut out = Vec::new(alloc);
+    push(&mut out, reading_fault(alloc, text, stop)?)?;
+    Ok(Report {
+        datapath: asked,
+        faults: Items::of(out),
+    })
+}
+
 /// The faults of an HCL text for a datapath, or for the one whose names fit best: if it isn't HCL, the reader's fault
 /// alone; otherwise every fault of binding, or a cycle. It has no fault exactly if it is a design for the datapath.
-#[tactic(auto, using(crate::proofs::Reported::reports_stop))]
 pub fn hcl_report(
     alloc: Global,
     text: &[u8],
@@ -200,13 +219,9 @@ pub fn hcl_report(
     requires pipe { IsSound tables.now.pipe.rows }
     ensures { IfOk result (ReportsHcl tables.now asked text.now) }
 {
-    let Some(stop) = stop_in(alloc, text)? else {
-        return bound_report(alloc, text, tables, asked);
-    };
-    let mut out = Vec::new(alloc);
-    push(&mut out, reading_fault(alloc, text, &stop)?)?;
-    Ok(Report {
-        datapath: asked,
-        faults: Items::of(out),
-    })
+    match stop_in(alloc, text) {
+        Err(memory) => Err(memory),
+        Ok(None) => bound_report(alloc, text, tables, asked),
+        Ok(Some(stop)) => stop_report(alloc, text, asked, &stop),
+    }
 }

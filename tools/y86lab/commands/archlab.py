@@ -102,7 +102,7 @@ def run_class(arguments: argparse.Namespace, programs: Programs) -> int:
     if arguments.file:
         answer = scoring.check(arguments.file)
         if answer.status != DONE:
-            raise LabError(f"{arguments.file}: {fault_of(answer)}", answer.status or OUT_OF_TIME)
+            raise LabError(f"{arguments.file}: {scoring.why_refused(answer, arguments.file)}", answer.status or OUT_OF_TIME)
         scoring = Scoring(programs, arguments.full, limits_of(arguments), arguments.file)
     curves = all_results(scoring.curve, found, arguments.jobs)
     sys.stdout.flush()
@@ -110,15 +110,6 @@ def run_class(arguments: argparse.Namespace, programs: Programs) -> int:
     if arguments.curves:
         write_curves(arguments.curves, curves)
     return DONE
-
-
-def fault_of(answer: Answer) -> str:
-    """Why a pipeline isn't accepted."""
-    if answer.status == REFUSED:
-        return f"the pipeline isn't accepted: {answer.out.partition(chr(10))[0]}"
-    if answer.status in (FAULT, TOO_LONG):
-        return f"the pipeline has a fault: {answer.err.strip()}"
-    return "the check of the pipeline gave no answer"
 
 
 @dataclass(frozen=True)
@@ -140,6 +131,15 @@ class Scoring:
         except (LabError, OSError, RecursionError, ValueError) as why:
             return Curve(hand_in.name, {}, why=self.in_its_names(hand_in, str(why)))
 
+    def why_refused(self, answer: Answer, processor: str) -> str:
+        """Why a pipeline isn't accepted, in a line."""
+        if answer.status == REFUSED:
+            return f"the pipeline isn't accepted: {answer.out.partition(chr(10))[0]}"
+        if answer.status in (FAULT, TOO_LONG):
+            said = tell.reason(self.programs, answer, processor, full_flag(self.full), "pipe")
+            return f"the pipeline has a fault: {said.partition(chr(10))[0]}"
+        return "the check of the pipeline gave no answer"
+
     def in_its_names(self, hand_in: HandIn, text: str) -> str:
         for name, path in hand_in.files.items():
             text = text.replace(path, name)
@@ -154,7 +154,7 @@ class Scoring:
             raise LabError(f"{SOURCE}: it is too long")
         answer = Answer(DONE, "", "") if self.processor else self.check(processor)
         if answer.status != DONE:
-            raise LabError(fault_of(answer))
+            raise LabError(self.why_refused(answer, processor))
         with tempfile.TemporaryDirectory() as folder:
             copy_loop = CopyLoop(self.programs, source, full_flag(self.full), folder, self.limits)
             size = copy_loop.size()
