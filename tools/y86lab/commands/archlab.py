@@ -102,7 +102,8 @@ def run_class(arguments: argparse.Namespace, programs: Programs) -> int:
     if arguments.file:
         answer = scoring.check(arguments.file)
         if answer.status != DONE:
-            raise LabError(f"{arguments.file}: {scoring.why_refused(answer, arguments.file)}", answer.status or OUT_OF_TIME)
+            why = scoring.why_refused(answer, arguments.file)
+            raise LabError(f"{arguments.file}: {why}", answer.status or OUT_OF_TIME)
         scoring = Scoring(programs, arguments.full, limits_of(arguments), arguments.file)
     curves = all_results(scoring.curve, found, arguments.jobs)
     sys.stdout.flush()
