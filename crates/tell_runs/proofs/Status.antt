@@ -1,5 +1,5 @@
 -- What the status of `run` and `program` says, from the parts of the answer.
-use Rattle.std.proofs.Common.{◌≡◌, ◌≢◌, ◌↔◌, ◌⊎◌, arith, inl, inr, refl, ℕ, List, Option, Some, None, IfSome, Ok, Err, Bool, true, false}
+use Rattle.std.proofs.Common.{◌≡◌, ◌↔◌, arith, refl, ℕ, Bool, true, false, List, Option, Some, None, IfSome, Ok}
 use Rattle.fault_report.specs.ObjectBytes.{puts_bytes}
 use Rattle.program_check.specs.Near.{IsWatched}
 use Rattle.program_check.specs.declared.watching.Watched.{Watched}
@@ -13,10 +13,7 @@ use Rattle.tell_runs.specs.Covered.{IsCoveredText, IsUncoveredText}
 use Rattle.tell_runs.specs.Running.{EndsApart, IsRun}
 use Rattle.wb_io.specs.Files.{HasBytes}
 use Rattle.y86_base.specs.declared.parts.Variant.{Variant}
-use Rattle.yo_object.specs.Loads.{out_of_memory}
 use Rattle.yo_object.specs.ObjectText.{object_of}
-use Rattle.yo_object.specs.declared.object.YoFault.{YoFault}
-use Rattle.yo_object.specs.declared.object.YoWhy.TheVariants.{Memory}
 
 -- what a source tells later it told before, if it told anything then
 pub told_before : (before now : Option (Option (List ℕ))) (bytes : List ℕ) → IfSome before (λ known. now ≡ Some known) → HasBytes now bytes → HasBytes before bytes
@@ -26,21 +23,13 @@ told_before (Some known) now bytes stays has = rw stays at has
 pub of_both : (hcl obj : Option (Option (List ℕ))) (source object : List ℕ) (P : List ℕ → List ℕ → Type 0) → HasBytes hcl source → HasBytes obj object → P source object → HasBothWith hcl obj P
 of_both hcl obj source object P first second has = (source, first, (object, second, has))
 
--- ---- object texts that aren't loadable
+-- ---- object texts without a byte
 
 pub is_empty : (size : ℕ) (object : List ℕ) → puts_bytes object ≡ false → IsLoadable size object → ⊥
 is_empty size object none (image, loads, puts) = absurd (cc (none, puts))
 
-pub is_unloadable : (size : ℕ) (object : List ℕ) (fault : YoFault) → (fault ≡ out_of_memory) ⊎ (object_of object size ≡ Err fault) → fault.why ≢ Memory → IsLoadable size object → ⊥
-unfolding out_of_memory
-is_unloadable size object fault (inl memory) other (image, loads, puts) = absurd (other (rw memory refl))
-is_unloadable size object fault (inr refuses) other (image, loads, puts) = absurd (cc (refuses, loads))
-
 pub empty : (size : ℕ) (told : Option (Option (List ℕ))) (object : List ℕ) → HasBytes told object → puts_bytes object ≡ false → HasBytesWith told (λ object. IsLoadable size object → ⊥)
 empty size told object bytes none = (object, bytes, is_empty size object none)
-
-pub unloadable : (size : ℕ) (told : Option (Option (List ℕ))) (object : List ℕ) (fault : YoFault) → HasBytes told object → (fault ≡ out_of_memory) ⊎ (object_of object size ≡ Err fault) → fault.why ≢ Memory → HasBytesWith told (λ object. IsLoadable size object → ⊥)
-unloadable size told object fault bytes refuses other = (object, bytes, is_unloadable size object fault refuses other)
 
 -- ---- programs
 

@@ -15,7 +15,7 @@ use wb_io::{Files, Sink};
 
 /// Reports whether the theorem covers the program of an object file. The status is 0 if the program stops within the
 /// limit, and no instruction fetches a byte that one of the three before it stored; otherwise 1.
-#[tactic(auto, using(crate::proofs::Status::covered, crate::proofs::Status::uncovered, crate::proofs::Status::unloadable, crate::proofs::Status::empty))]
+#[tactic(auto, using(crate::proofs::Status::covered, crate::proofs::Status::uncovered, crate::proofs::Status::empty))]
 pub fn report_program<'a, F: Files, O: Sink>(
     alloc: Global,
     file: &'a str,

@@ -41,7 +41,7 @@ struct Run {
 }
 
 /// Runs an object text under an HCL text, and by its instructions.
-#[tactic(auto, using(crate::proofs::Status::is_unloadable, crate::proofs::Status::is_empty))]
+#[tactic(auto, using(crate::proofs::Status::is_empty))]
 fn run_texts(alloc: Global, source: &[u8], object: &[u8], asked: &RunQuestion) -> Result<Run, NoRun>
     requires size { IsSize asked.now.size }
     requires limit { asked.now.limit < 2 ^ 63 }
@@ -118,7 +118,10 @@ fn report_run<'a>(
     ensures faulty { IfErr result (λ stop. status_of stop ≡ 5 → HasNoRun asked.now.size source.now object.now) }
 {
     match run_texts(alloc, source, object, asked) {
-        Ok(run) => Ok(said_of(alloc, asked, &run)?),
+        Ok(run) => match said_of(alloc, asked, &run) {
+            Ok(said) => Ok(said),
+            Err(_) => Err(Stop::Memory),
+        },
         Err(NoRun::Design(fault)) => { Err(fault_stop(alloc, hcl, source, Datapath::Pipe, &fault)) }
         Err(NoRun::Object(fault)) => Err(object_stop(alloc, obj, object, asked.size, &fault)),
         Err(NoRun::Empty) => Err(text_stop(alloc, obj, object, asked.size)),
