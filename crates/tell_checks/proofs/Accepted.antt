@@ -1,5 +1,5 @@
 -- What the status of `check` says, from the parts of the answer.
-use Rattle.std.proofs.Common.{◌≡◌, ◌↔◌, arith, inl, inr, refl, ℕ, Bool, true, false, List, Option}
+use Rattle.std.proofs.Common.{◌≡◌, inl, inr, ℕ, false, List, Option}
 use Rattle.ctl_atoms.specs.declared.fault.CtlFault.{CtlFault}
 use Rattle.ctl_verdicts.specs.ObligationSet.{IsFault}
 use Rattle.ctl_verdicts.specs.declared.fault.CheckFault.TheVariants.{Ctl}
@@ -40,13 +40,10 @@ undecided path told text bound why bytes design fault = (text, bytes, inr (recor
 
 -- ---- a design that breaks an obligation
 
-not_zero : (status : ℕ) → (status ≡ 0) ↔ (true ≡ true) → status ≡ 1 → ⊥
-not_zero status both one = absurd (omega (arith, both.1 refl, one))
+pub breaks_pipe : (v : Variant) (terms : List Term) (answer : PipeAnswer) → Answers v terms answer → is_yes answer ≡ false → BreaksPipe v terms
+breaks_pipe v terms (pipe.Yes settings) answers refused = absurd (cc (refused))
+breaks_pipe v terms (pipe.No refusal) answers refused = (refusal.first.rule, refusal.first.valuation.bits, answers.is.rejects)
 
-pub breaks_pipe : (v : Variant) (terms : List Term) (answer : PipeAnswer) (status : ℕ) → Answers v terms answer → (status ≡ 0) ↔ (is_yes answer ≡ true) → status ≡ 1 → BreaksPipe v terms
-breaks_pipe v terms (pipe.Yes settings) status answers both one = absurd (not_zero status both one)
-breaks_pipe v terms (pipe.No refusal) status answers both one = (refusal.first.rule, refusal.first.valuation.bits, answers.is.rejects)
-
-pub breaks_sequential : (which : SequentialDatapath) (v : Variant) (terms : List Term) (answer : SeqAnswer) (status : ℕ) → SeqAnswers which v terms answer → (status ≡ 0) ↔ (seq.is_yes answer ≡ true) → status ≡ 1 → BreaksSequential which v terms
-breaks_sequential which v terms sequential.Yes status answers both one = absurd (not_zero status both one)
-breaks_sequential which v terms (sequential.No refusal) status answers both one = (refusal.first.rule, refusal.first.valuation.bits, answers.is.rejects)
+pub breaks_sequential : (which : SequentialDatapath) (v : Variant) (terms : List Term) (answer : SeqAnswer) → SeqAnswers which v terms answer → seq.is_yes answer ≡ false → BreaksSequential which v terms
+breaks_sequential which v terms sequential.Yes answers refused = absurd (cc (refused))
+breaks_sequential which v terms (sequential.No refusal) answers refused = (refusal.first.rule, refusal.first.valuation.bits, answers.is.rejects)

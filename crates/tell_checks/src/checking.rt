@@ -100,11 +100,16 @@ pub fn check<'a, F: Files>(
         Ok(bound) => bound,
         Err(fault) => return Err(fault_stop(alloc, hcl, source.as_slice(), asked.path, &fault)),
     };
-    let cases = case_places(alloc, source.as_slice())?;
+    let Ok(cases) = case_places(alloc, source.as_slice()) else {
+        return Err(Stop::Memory);
+    };
     let file = explained_file(&bound, cases.as_slice());
     match explain(alloc, asked, &bound, &file) {
         Ok(said) => Ok(said),
-        Err(CheckFault::Ctl(fault)) => Err(control_stop(alloc, hcl, file.rows, fault)?),
+        Err(CheckFault::Ctl(fault)) => match control_stop(alloc, hcl, file.rows, fault) {
+            Ok(stop) => Err(stop),
+            Err(_) => Err(Stop::Memory),
+        },
         Err(CheckFault::Memory) => Err(Stop::Memory),
     }
 }

@@ -1,5 +1,5 @@
 //! `check pipe`: the verdict on a design for PIPE, explained.
-ghost use Rattle.std.specs.Prelude.{◌≡◌, ◌≤◌, ◌↔◌, IfErr, IfOk, true};
+ghost use Rattle.std.specs.Prelude.{◌≡◌, ◌≤◌, ◌↔◌, IfErr, IfOk, false, true};
 ghost use Rattle.control_check.specs.PipeVerdicts.{RefinesPipe};
 ghost use Rattle.dp_signals.specs.PipeTable.{pipe_rows};
 ghost use Rattle.ctl_verdicts.specs.ObligationSet.{IsFault};
@@ -83,6 +83,7 @@ fn answer_text(
     answer: &PipeAnswer,
 ) -> Result<Said, AllocError>
     ensures yes { IfOk result (λ said. (said.status ≡ 0) ↔ (is_yes answer.now ≡ true)) }
+    ensures no { IfOk result (λ said. said.status ≡ 1 → is_yes answer.now ≡ false) }
     ensures low { IfOk result (λ said. said.status ≤ 1) }
 {
     match answer {

@@ -1,5 +1,5 @@
 //! `check seq` and `check seqplus`: the verdict on a design for SEQ or SEQ+, explained.
-ghost use Rattle.std.specs.Prelude.{◌≡◌, ◌≤◌, ◌↔◌, IfErr, IfOk, true};
+ghost use Rattle.std.specs.Prelude.{◌≡◌, ◌≤◌, ◌↔◌, IfErr, IfOk, false, true};
 ghost use Rattle.ctl_verdicts.specs.ObligationSet.{IsFault};
 ghost use Rattle.hcl_types.specs.Tables.{IsBoundDesign};
 ghost use Rattle.seq_plus.specs.Datapaths.{rows_of};
@@ -83,6 +83,7 @@ fn answer_text(
     answer: &SeqAnswer,
 ) -> Result<Said, AllocError>
     ensures yes { IfOk result (λ said. (said.status ≡ 0) ↔ (is_yes answer.now ≡ true)) }
+    ensures no { IfOk result (λ said. said.status ≡ 1 → is_yes answer.now ≡ false) }
     ensures low { IfOk result (λ said. said.status ≤ 1) }
 {
     match answer {
