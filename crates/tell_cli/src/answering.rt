@@ -45,7 +45,10 @@ fn answer<'a, F: Files, O: Sink>(
     ensures stops { IfErr result (λ stop. status_of stop ≡ 5 → IsFaulty (F.told files.old) call.entry) }
 {
     match call {
-        Call::Check { hcl, asked } => say(check(alloc, hcl, asked, files)?, out),
+        Call::Check { hcl, asked } => match check(alloc, hcl, asked, files) {
+            Ok(said) => say(said, out),
+            Err(stop) => Err(stop),
+        },
         Call::Program { obj, asked } => {
             if is_size(asked.size) {
                 report_program(alloc, obj, asked, files, out)
@@ -60,13 +63,18 @@ fn answer<'a, F: Files, O: Sink>(
             if !is_limit(asked.limit) {
                 return Err(Stop::Usage(ODD_LIMIT));
             }
-            say(tell_run(alloc, hcl, obj, &asked, files)?, out)
+            match tell_run(alloc, hcl, obj, &asked, files) {
+                Ok(said) => say(said, out),
+                Err(stop) => Err(stop),
+            }
         }
         Call::Fault { file, asked } => {
-            if is_size(asked.size) {
-                say(report_faults(alloc, file, asked, files)?, out)
-            } else {
-                Err(Stop::Usage(ODD_SIZE))
+            if !is_size(asked.size) {
+                return Err(Stop::Usage(ODD_SIZE));
+            }
+            match report_faults(alloc, file, asked, files) {
+                Ok(said) => say(said, out),
+                Err(stop) => Err(stop),
             }
         }
         Call::Show { word, json } => say(show(alloc, word, json)?, out),
